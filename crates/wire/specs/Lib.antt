@@ -1,0 +1,16 @@
+pub mod Choose
+pub mod Limits
+pub mod Numbers
+pub mod Varint
+pub mod VarintMeaning
+pub mod VarintLaws
+pub mod VarintLength
+pub mod Fixed
+pub mod Signed
+pub mod Written
+pub mod Reading
+pub mod Skipping
+pub mod Places
+pub mod ReadingLaws
+pub mod Theorem
+pub mod Formats

@@ -1,0 +1,24 @@
+-- The paper's numbers.
+use Prim.Native.Nat.{ℕ}
+use Rattle.wire.specs.declared.Refusal.{Refusal}
+use Rattle.wire.specs.declared.Refusal.the-variants.{Truncated, InvalidVarint, TagOverflowed, TooLong, NoRoom, BadRecord, OutOfOrder, BadCap}
+use Rattle.wire.specs.declared.WireType.{WireType}
+use Rattle.wire.specs.declared.WireType.the-variants.{Varint, LengthDelimited, ThirtyTwoBit, SixtyFourBit}
+
+-- of a refusal; 0 is accepted
+abbrev pub numberOf : Refusal → ℕ
+numberOf Truncated = 1
+numberOf InvalidVarint = 2
+numberOf TagOverflowed = 3
+numberOf TooLong = 4
+numberOf NoRoom = 5
+numberOf BadRecord = 6
+numberOf OutOfOrder = 7
+numberOf BadCap = 8
+
+-- of a wire type
+abbrev pub typeOf : WireType → ℕ
+typeOf Varint = 0
+typeOf LengthDelimited = 1
+typeOf ThirtyTwoBit = 2
+typeOf SixtyFourBit = 3

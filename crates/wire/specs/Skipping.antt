@@ -1,0 +1,52 @@
+-- Skipping: the values of one tag, one behind the other, passed over.
+use Prim.Native.Nat.{ℕ, zero, suc, _+_, _-_}
+use mathlib.Core.Bool.{Bool, true, false}
+use mathlib.Core.List.{List}
+use lib.Dec.{ltb, leb}
+use lib.ListN.{length, getD}
+use Rattle.wire.specs.Choose.{choose}
+use Rattle.wire.specs.Reading.{cappedAt, wireOf}
+use Rattle.wire.specs.declared.Refusal.the-variants.{Truncated}
+use Rattle.wire.specs.declared.WireType.{WireType}
+use Rattle.wire.specs.declared.WireType.the-variants.{Varint, LengthDelimited, ThirtyTwoBit, SixtyFourBit}
+use Rattle.wire.specs.declared.VarintFound.{VarintFound}
+use Rattle.wire.specs.declared.VarintFound.the-variants as varintFound
+use Rattle.wire.specs.declared.Reached.{Reached}
+use Rattle.wire.specs.declared.Reached.the-variants.{To, Refused}
+
+-- bytes up to place q are passed if the slice has them; the end is not asked
+abbrev pub inSlice : List ℕ → ℕ → Reached
+inSlice s q = choose (leb q (length s)) (To q) (Refused Truncated)
+
+abbrev pub pastNumber : VarintFound → Reached
+pastNumber (varintFound.Got v q) = To q
+pastNumber (varintFound.Refused r) = Refused r
+
+abbrev pub pastPayload : List ℕ → VarintFound → Reached
+pastPayload s (varintFound.Got n q) = inSlice s (q + n)
+pastPayload s (varintFound.Refused r) = Refused r
+
+-- one value; a length too is read with the change of name
+unfoldable pub pastAt : List ℕ → ℕ → ℕ → WireType → Reached
+pastAt s e p Varint = pastNumber (cappedAt s e p)
+pastAt s e p LengthDelimited = pastPayload s (cappedAt s e p)
+pastAt s e p ThirtyTwoBit = inSlice s (p + 4)
+pastAt s e p SixtyFourBit = inSlice s (p + 8)
+
+-- a byte remains before the end and is below 4: the next key of the same tag
+abbrev pub repeats : List ℕ → ℕ → ℕ → Bool
+repeats s e q = choose (ltb q e) (ltb (getD s q 4) 4) false
+
+-- what follows a value
+abbrev pub beyond : List ℕ → ℕ → Reached → (ℕ → WireType → Reached) → Reached
+beyond s e (To q) go = choose (repeats s e q) (go (suc q) (wireOf (getD s q 0))) (To q)
+beyond s e (Refused r) go = Refused r
+
+-- from place p, with at most k values more
+abbrev pub skipFrom : ℕ → List ℕ → ℕ → ℕ → WireType → Reached
+skipFrom zero s e p w = pastAt s e p w
+skipFrom (suc k) s e p w = beyond s e (pastAt s e p w) (skipFrom k s e)
+
+-- from a value of a wire type at place p; every value takes a byte at least
+unfoldable pub skipAt : List ℕ → ℕ → ℕ → WireType → Reached
+skipAt s e p w = skipFrom (length s - p) s e p w

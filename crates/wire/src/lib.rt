@@ -1,0 +1,95 @@
+// The types that every room shares, and the numbers that have a name. Nothing is done here: what the bytes mean stands in specs/.
+// WireType, Value and Refusal are from src/encoding/mod.rs, opaque.rs and error.rs of bilrost.
+
+// The longest slice that is read, and the longest message that is written.
+pub const MESSAGE_LIMIT: usize = 65_535;
+
+// The words of a record in a table.
+pub const RECORD_WORDS: usize = 4;
+
+// The last tag that a field can have.
+pub const LAST_TAG: u64 = 0xffff_ffff;
+
+pub enum WireType {
+    Varint,
+    LengthDelimited,
+    ThirtyTwoBit,
+    SixtyFourBit,
+}
+
+// A value. A payload is its place in the slice and its length.
+pub enum Value {
+    Varint(u64),
+    LengthDelimited(usize, usize),
+    ThirtyTwoBit(u32),
+    SixtyFourBit(u64),
+}
+
+pub struct Field {
+    pub tag: u32,
+    pub value: Value,
+}
+
+pub struct Key {
+    pub tag: u32,
+    pub wire: WireType,
+}
+
+// A field as it stands in a table: its tag, its wire type's number, the number or the payload's start, the value's bytes (0 for a varint).
+pub struct Record {
+    pub tag: u64,
+    pub kind: u64,
+    pub value: u64,
+    pub length: u64,
+}
+
+pub enum Refusal {
+    Truncated,
+    InvalidVarint,
+    TagOverflowed,
+    TooLong,
+    NoRoom,
+    BadRecord,
+    OutOfOrder,
+    BadCap,
+}
+
+// What a core finds at a place of a slice: something and the place after it, or why there is none.
+pub enum VarintFound {
+    Got(u64, usize),
+    Refused(Refusal),
+}
+
+pub enum KeyFound {
+    Got(Key, usize),
+    Refused(Refusal),
+}
+
+pub enum ValueFound {
+    Got(Value, usize),
+    Refused(Refusal),
+}
+
+pub enum FieldFound {
+    Got(Field, usize),
+    Refused(Refusal),
+}
+
+// The place that skipping reaches.
+pub enum Reached {
+    To(usize),
+    Refused(Refusal),
+}
+
+// One step of a message.
+pub enum Stepped {
+    Field(Field, usize),
+    End,
+    Refused(Refusal),
+}
+
+// What a message reader answers: the end and the number of fields, or a refusal, its place and a count.
+pub enum Read {
+    Accepted(usize, usize),
+    Refused(Refusal, usize, usize),
+}
