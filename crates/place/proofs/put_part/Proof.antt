@@ -1,0 +1,86 @@
+-- `place::put_part` meets its contract.
+use Prim.Native.Nat.{_+_}
+use mathlib.Core.Path.{sym}
+use native.Mathlib.Omega.{arith}
+use Rattle.place.specs.Place.{part-outside}
+use Rattle.place.proofs.Turns.{part-none, Copying, copy-start, copy-reads, copy-writes, copy-more, copy-done}
+use borrow.Author.Needs.{needs}
+use Rattle.place.proofs.put_part.Statement.{statement}
+use Rattle.place.proofs.put_part.Tie as tie
+
+abbrev Inv-loop : tie.InvT-loop
+Inv-loop buf₀ at bytes from n p₀ q₀ left₀ buf p q left = Copying buf₀ at bytes from n buf p q left
+
+abbrev μ-loop : tie.MeasureT-loop
+μ-loop buf₀ at bytes from n p₀ q₀ left₀ buf p q left = left
+
+returns : tie.Need-returns Inv-loop μ-loop
+returns c = sym (part-outside _ _ _ _ _ (omega arith))
+
+sub-if2 : tie.Need-sub-if2 Inv-loop μ-loop
+sub-if2 c = search needs
+
+returns-2 : tie.Need-returns-2 Inv-loop μ-loop
+returns-2 c = sym (part-outside _ _ _ _ _ (omega arith))
+
+returns-3 : tie.Need-returns-3 Inv-loop μ-loop
+returns-3 c = sym (part-none _ _ _ _ _ (omega arith) (omega arith))
+
+sub-if4 : tie.Need-sub-if4 Inv-loop μ-loop
+sub-if4 c = search needs
+
+returns-4 : tie.Need-returns-4 Inv-loop μ-loop
+returns-4 c = sym (part-none _ _ _ _ _ (omega arith) (omega arith))
+
+loop-holds : tie.Need-loop-holds Inv-loop μ-loop
+loop-holds c = copy-start _ _ _ _ _ (omega arith) (omega arith)
+
+shared-slice-read-buf : tie.Need-shared-slice-read-buf Inv-loop μ-loop
+shared-slice-read-buf c = copy-reads (c .before .before .loop .inv) (c .before .loop-test .taken)
+
+slice-write-buf : tie.Need-slice-write-buf Inv-loop μ-loop
+slice-write-buf c = copy-writes (c .before .before .loop .inv) (c .before .loop-test .taken)
+
+add-p : tie.Need-add-p Inv-loop μ-loop
+add-p c = omega (arith, copy-writes (c .before .before .loop .inv) (c .before .loop-test .taken))
+
+add-q : tie.Need-add-q Inv-loop μ-loop
+add-q c = omega (arith, copy-reads (c .before .before .loop .inv) (c .before .loop-test .taken))
+
+sub-left : tie.Need-sub-left Inv-loop μ-loop
+sub-left c = search needs
+
+loop-less : tie.Need-loop-less Inv-loop μ-loop
+loop-less c = search needs
+
+loop-again : tie.Need-loop-again Inv-loop μ-loop
+loop-again c = copy-more (c .before .before .loop .inv) (c .before .loop-test .taken)
+
+same-length : tie.Need-same-length Inv-loop μ-loop
+same-length c = c .before .loop .inv .put .same
+
+returns-5 : tie.Need-returns-5 Inv-loop μ-loop
+returns-5 c = copy-done (c .before .loop .inv) (c .loop-test .left)
+
+pub put-part-spec : {M : Type 1} → statement M
+put-part-spec =
+    tie.close
+    (tie.spec
+    Inv-loop
+    μ-loop
+    returns
+    sub-if2
+    returns-2
+    returns-3
+    sub-if4
+    returns-4
+    loop-holds
+    shared-slice-read-buf
+    slice-write-buf
+    add-p
+    add-q
+    sub-left
+    loop-less
+    loop-again
+    same-length
+    returns-5)

@@ -1,0 +1,206 @@
+// Varints: measured, read at a place of a slice, put at a place of a buffer, prepended to one; and the signed mapping.
+// From src/encoding/mod.rs (the looped twins of the varint functions, `Capped::decode_varint`) and varint.rs of bilrost.
+ghost use mathlib.Core.Path.{_≡_};
+ghost use lib.ListN.{length};
+ghost use Rattle.wire.specs.Varint.{encode};
+ghost use Rattle.wire.specs.Reading.{varintAt, cappedAt};
+ghost use Rattle.wire.specs.Signed.{toUnsigned, toSigned};
+ghost use Rattle.place.specs.Place.{Placed, putAt, prependAt};
+use wire::Refusal;
+use wire::VarintFound;
+
+// The smallest numbers that are written as one byte, as two, and so on up to nine.
+pub const VARINT_LIMIT: [u64; 9] = [
+    0,
+    0x80,
+    0x4080,
+    0x20_4080,
+    0x1020_4080,
+    0x8_1020_4080,
+    0x408_1020_4080,
+    0x2_0408_1020_4080,
+    0x102_0408_1020_4080,
+];
+
+const L1: u64 = VARINT_LIMIT[1];
+
+const L2: u64 = VARINT_LIMIT[2];
+
+const L3: u64 = VARINT_LIMIT[3];
+
+const L4: u64 = VARINT_LIMIT[4];
+
+const L5: u64 = VARINT_LIMIT[5];
+
+const L6: u64 = VARINT_LIMIT[6];
+
+const L7: u64 = VARINT_LIMIT[7];
+
+const L8: u64 = VARINT_LIMIT[8];
+
+// How many bytes a number is written as.
+pub fn encoded_len_varint(v: u64) -> usize
+    ensures { λ r. ⌜ r ≡ length (encode v) ⌝ }
+{
+    match v {
+        0..L1 => 1,
+        L1..L2 => 2,
+        L2..L3 => 3,
+        L3..L4 => 4,
+        L4..L5 => 5,
+        L5..L6 => 6,
+        L6..L7 => 7,
+        L7..L8 => 8,
+        _ => 9,
+    }
+}
+
+// A varint of any length: up to eight bytes whose sum cannot be too large, and a ninth.
+fn decode_long(s: &[u8], at: usize) -> VarintFound
+    ensures { λ r. ⌜ r ≡ varintAt (now (s .entry)) at ⌝ }
+{
+    let mut value: u64 = 0;
+    let mut scale: u64 = 1;
+    let mut left: usize = 8;
+    let mut p = at;
+    while 0 < left {
+        if s.len() <= p {
+            return VarintFound::Refused(Refusal::Truncated);
+        }
+        let b = s[p] as u64;
+        value += b * scale;
+        p += 1;
+        if b < 128 {
+            return VarintFound::Got(value, p);
+        }
+        scale *= 128;
+        left -= 1;
+    }
+    if s.len() <= p {
+        return VarintFound::Refused(Refusal::Truncated);
+    }
+    let b = s[p] as u64;
+    if 255 < value / 0x100_0000_0000_0000 + b {
+        return VarintFound::Refused(Refusal::InvalidVarint);
+    }
+    VarintFound::Got(value + b * 0x100_0000_0000_0000, p + 1)
+}
+
+// A varint at a place, read from the slice as far as it goes. Most are one byte or two.
+pub fn decode_varint(s: &[u8], at: usize) -> VarintFound
+    ensures { λ r. ⌜ r ≡ varintAt (now (s .entry)) at ⌝ }
+{
+    if at < s.len() {
+        let b = s[at] as u64;
+        if b < 128 {
+            return VarintFound::Got(b, at + 1);
+        }
+        if 1 < s.len() - at {
+            let c = s[at + 1] as u64;
+            if c < 128 {
+                return VarintFound::Got(b + 128 * c, at + 2);
+            }
+        }
+    }
+    decode_long(s, at)
+}
+
+// A varint of a key or a value: read beyond the end too, and Truncated if it is invalid and its nine bytes pass the end.
+pub fn decode_varint_capped(s: &[u8], at: usize, end: usize) -> VarintFound
+    ensures { λ r. ⌜ r ≡ cappedAt (now (s .entry)) end at ⌝ }
+{
+    if at < s.len() {
+        let b = s[at] as u64;
+        if b < 128 {
+            return VarintFound::Got(b, at + 1);
+        }
+    }
+    match decode_long(s, at) {
+        VarintFound::Got(v, next) => VarintFound::Got(v, next),
+        VarintFound::Refused(r) => {
+            if end <= at {
+                return VarintFound::Refused(Refusal::Truncated);
+            }
+            if end - at < 9 {
+                return VarintFound::Refused(Refusal::Truncated);
+            }
+            VarintFound::Refused(r)
+        }
+    }
+}
+
+// A number of any length.
+fn put_long(buf: &mut [u8], at: usize, v: u64) -> usize
+    ensures { λ r. ⌜ record { next = r; buf = now (buf .exit) } ≡ putAt (now (buf .entry)) at (encode v) ⌝ }
+{
+    if buf.len() < at {
+        return at;
+    }
+    if buf.len() - at < encoded_len_varint(v) {
+        return at;
+    }
+    let mut x = v;
+    let mut p = at;
+    let mut left: usize = 8;
+    while 0 < left {
+        if x < 128 {
+            buf[p] = x as u8;
+            return p + 1;
+        }
+        buf[p] = (128 + x % 128) as u8;
+        x = x / 128 - 1;
+        p += 1;
+        left -= 1;
+    }
+    buf[p] = x as u8;
+    p + 1
+}
+
+// A number's bytes from a place on, and the place after them; the place given, and nothing written, where they have no room.
+pub fn put_varint(buf: &mut [u8], at: usize, v: u64) -> usize
+    ensures { λ r. ⌜ record { next = r; buf = now (buf .exit) } ≡ putAt (now (buf .entry)) at (encode v) ⌝ }
+{
+    if v < 128 {
+        if at < buf.len() {
+            buf[at] = v as u8;
+            return at + 1;
+        }
+        return at;
+    }
+    put_long(buf, at, v)
+}
+
+// A number's bytes up to a place, and the place where they start; the place given, and nothing written, where they have no room.
+pub fn prepend_varint(buf: &mut [u8], end: usize, v: u64) -> usize
+    ensures { λ r. ⌜ record { next = r; buf = now (buf .exit) } ≡ prependAt (now (buf .entry)) end (encode v) ⌝ }
+{
+    if buf.len() < end {
+        return end;
+    }
+    let mut scratch = [0u8; 9];
+    let n = put_varint(&mut scratch, 0, v);
+    if end < n {
+        return end;
+    }
+    place::put_part(buf, end - n, &scratch, 0, n);
+    end - n
+}
+
+// A signed number as an unsigned one: v at least 0 gives 2v, v below 0 gives -2v - 1.
+pub fn i64_to_unsigned(v: i64) -> u64
+    ensures { λ r. ⌜ r ≡ toUnsigned v ⌝ }
+{
+    if 0 <= v {
+        (v as u64) * 2
+    } else {
+        (-(v + 1)) as u64 * 2 + 1
+    }
+}
+
+// Its inverse.
+pub fn u64_to_signed(u: u64) -> i64
+    ensures { λ r. ⌜ r ≡ toSigned u ⌝ }
+{
+    let h = (u / 2) as i64;
+    if u % 2 == 0 { h } else { -h - 1 }
+}
