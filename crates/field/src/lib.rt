@@ -1,0 +1,171 @@
+// One field under a cap: its key, then its value. From src/encoding/mod.rs (`Capped`, `decode_key`) and opaque.rs.
+ghost use mathlib.Core.Path.{_≡_};
+ghost use mathlib.Core.List.{_∷_, []};
+ghost use Prim.Native.Nat.{_+_, _≤_, _<_, _%_, _^_};
+ghost use lib.ListN.{length, take, drop};
+ghost use Rattle.wire.specs.Fixed.{number};
+ghost use Rattle.wire.specs.Reading.{wireOf, keyAt, valueAt, fieldAt};
+ghost use Rattle.wire.specs.declared.WireType.the-variants.{Varint, LengthDelimited, ThirtyTwoBit, SixtyFourBit};
+use wire::Field;
+use wire::FieldFound;
+use wire::Key;
+use wire::KeyFound;
+use wire::Refusal;
+use wire::Value;
+use wire::ValueFound;
+use wire::VarintFound;
+use wire::WireType;
+
+// The wire type that a key's last two bits name.
+pub fn wire_type_of(key: u64) -> WireType
+    ensures { λ r. ⌜ r ≡ wireOf (key % 4) ⌝ }
+{
+    match key % 4 {
+        0 => WireType::Varint,
+        1 => WireType::LengthDelimited,
+        2 => WireType::ThirtyTwoBit,
+        _ => WireType::SixtyFourBit,
+    }
+}
+
+// A key: its tag, its wire type and the place after it.
+pub fn decode_key(s: &[u8], at: usize, end: usize, last: u32) -> KeyFound
+    ensures { λ r. ⌜ r ≡ keyAt (now (s .entry)) end at last ⌝ }
+{
+    match varint::decode_varint_capped(s, at, end) {
+        VarintFound::Refused(r) => KeyFound::Refused(r),
+        VarintFound::Got(key, next) => {
+            let tag = (last as u64) + key / 4;
+            if wire::LAST_TAG < tag {
+                return KeyFound::Refused(Refusal::TagOverflowed);
+            }
+            KeyFound::Got(
+                Key {
+                    tag: tag as u32,
+                    wire: wire_type_of(key),
+                },
+                next,
+            )
+        }
+    }
+}
+
+fn number_at(s: &[u8], at: usize, end: usize) -> ValueFound
+    ensures { λ r. ⌜ r ≡ valueAt (now (s .entry)) end at Varint ⌝ }
+{
+    match varint::decode_varint_capped(s, at, end) {
+        VarintFound::Got(v, next) => ValueFound::Got(Value::Varint(v), next),
+        VarintFound::Refused(r) => ValueFound::Refused(r),
+    }
+}
+
+fn payload_at(s: &[u8], at: usize, end: usize) -> ValueFound
+    ensures { λ r. ⌜ r ≡ valueAt (now (s .entry)) end at LengthDelimited ⌝ }
+{
+    match varint::decode_varint(s, at) {
+        VarintFound::Refused(r) => ValueFound::Refused(r),
+        VarintFound::Got(n, q) => {
+            if ((s.len() - q) as u64) < n {
+                return ValueFound::Refused(Refusal::Truncated);
+            }
+            let next = q + (n as usize);
+            if end < next {
+                return ValueFound::Refused(Refusal::Truncated);
+            }
+            ValueFound::Got(Value::LengthDelimited(q, n as usize), next)
+        }
+    }
+}
+
+// Four bytes as a number, lowest first.
+pub fn four_bytes(a: u8, b: u8, c: u8, d: u8) -> u64
+    ensures { λ r. ⌜ r ≡ number (a ∷ b ∷ c ∷ d ∷ []) ⌝ }
+{
+    (a as u64) + (b as u64) * 0x100 + (c as u64) * 0x1_0000 + (d as u64) * 0x100_0000
+}
+
+fn four_at(s: &[u8], at: usize, end: usize) -> ValueFound
+    ensures { λ r. ⌜ r ≡ valueAt (now (s .entry)) end at ThirtyTwoBit ⌝ }
+{
+    if s.len() < at {
+        return ValueFound::Refused(Refusal::Truncated);
+    }
+    if s.len() - at < 4 {
+        return ValueFound::Refused(Refusal::Truncated);
+    }
+    if end < at + 4 {
+        return ValueFound::Refused(Refusal::Truncated);
+    }
+    let v = four_bytes(s[at], s[at + 1], s[at + 2], s[at + 3]);
+    ValueFound::Got(Value::ThirtyTwoBit(v as u32), at + 4)
+}
+
+fn eight_at(s: &[u8], at: usize, end: usize) -> ValueFound
+    ensures { λ r. ⌜ r ≡ valueAt (now (s .entry)) end at SixtyFourBit ⌝ }
+{
+    if s.len() < at {
+        return ValueFound::Refused(Refusal::Truncated);
+    }
+    if s.len() - at < 8 {
+        return ValueFound::Refused(Refusal::Truncated);
+    }
+    if end < at + 8 {
+        return ValueFound::Refused(Refusal::Truncated);
+    }
+    let low = four_bytes(s[at], s[at + 1], s[at + 2], s[at + 3]);
+    let high = four_bytes(s[at + 4], s[at + 5], s[at + 6], s[at + 7]);
+    ValueFound::Got(Value::SixtyFourBit(low + high * 0x1_0000_0000), at + 8)
+}
+
+// The same by the number of the type, which is what a key holds: two tests, no table of jumps.
+fn value_of_kind(s: &[u8], at: usize, end: usize, kind: u64) -> ValueFound
+    ensures { λ r. ⌜ r ≡ valueAt (now (s .entry)) end at (wireOf kind) ⌝ }
+{
+    if kind < 2 {
+        if kind == 0 {
+            return number_at(s, at, end);
+        }
+        return payload_at(s, at, end);
+    }
+    if kind == 2 {
+        return four_at(s, at, end);
+    }
+    eight_at(s, at, end)
+}
+
+// A value of a wire type.
+pub fn decode_value(s: &[u8], at: usize, end: usize, wire: WireType) -> ValueFound
+    ensures { λ r. ⌜ r ≡ valueAt (now (s .entry)) end at wire ⌝ }
+{
+    match wire {
+        WireType::Varint => number_at(s, at, end),
+        WireType::LengthDelimited => payload_at(s, at, end),
+        WireType::ThirtyTwoBit => four_at(s, at, end),
+        WireType::SixtyFourBit => eight_at(s, at, end),
+    }
+}
+
+// A key, then its value. The place after it may be past the end.
+pub fn decode_field(s: &[u8], at: usize, end: usize, last: u32) -> FieldFound
+    ensures { λ r. ⌜ r ≡ fieldAt (now (s .entry)) end at last ⌝ }
+{
+    match varint::decode_varint_capped(s, at, end) {
+        VarintFound::Refused(r) => FieldFound::Refused(r),
+        VarintFound::Got(key, q) => {
+            let tag = (last as u64) + key / 4;
+            if wire::LAST_TAG < tag {
+                return FieldFound::Refused(Refusal::TagOverflowed);
+            }
+            match value_of_kind(s, q, end, key % 4) {
+                ValueFound::Refused(r) => FieldFound::Refused(r),
+                ValueFound::Got(v, next) => FieldFound::Got(
+                    Field {
+                        tag: tag as u32,
+                        value: v,
+                    },
+                    next,
+                ),
+            }
+        }
+    }
+}
