@@ -14,3 +14,4 @@ pub mod Places
 pub mod ReadingLaws
 pub mod Theorem
 pub mod Formats
+pub mod Table
