@@ -4,6 +4,7 @@ ghost use mathlib.Core.List.{_∷_, []};
 ghost use Prim.Native.Nat.{_+_, _≤_, _<_, _%_, _^_};
 ghost use lib.ListN.{length, take, drop};
 ghost use Rattle.wire.specs.Fixed.{number};
+ghost use Rattle.wire.specs.Numbers.{typeOf};
 ghost use Rattle.wire.specs.Reading.{wireOf, keyAt, valueAt, fieldAt};
 ghost use Rattle.wire.specs.declared.WireType.the-variants.{Varint, LengthDelimited, ThirtyTwoBit, SixtyFourBit};
 use wire::Field;
@@ -25,6 +26,18 @@ pub fn wire_type_of(key: u64) -> WireType
         1 => WireType::LengthDelimited,
         2 => WireType::ThirtyTwoBit,
         _ => WireType::SixtyFourBit,
+    }
+}
+
+// A wire type's number.
+pub fn wire_number(wire: WireType) -> u64
+    ensures { λ r. ⌜ r ≡ typeOf wire ⌝ }
+{
+    match wire {
+        WireType::Varint => 0,
+        WireType::LengthDelimited => 1,
+        WireType::ThirtyTwoBit => 2,
+        WireType::SixtyFourBit => 3,
     }
 }
 

@@ -68,6 +68,16 @@ prepend-none b end xs h = go (leb end (length b)) refl
     go true e = rw (e, lt-leb (length xs) end h)
     go false e = rw e
 
+-- what is put up to a place starts no later
+pub prepend-starts : (b : List ℕ) (end : ℕ) (xs : List ℕ) {n : ℕ} {c : List ℕ} → _≡_ {A = Placed} (record { next = n; buf = c }) (prependAt b end xs) → n ≤ end
+unfolding prependAt
+prepend-starts b end xs {n} {c} e = go (leb end (length b)) refl (leb (length xs) end) refl
+  where
+    go : (t : Bool) → leb end (length b) ≡ t → (u : Bool) → leb (length xs) end ≡ u → n ≤ end
+    go true t true u = let z : n ≡ end - length xs = ap (λ (o : Placed). o .next) e ∙ rw (t, u) in omega arith
+    go true t false u = let z : n ≡ end = ap (λ (o : Placed). o .next) e ∙ rw (t, u) in omega arith
+    go false t u q = let z : n ≡ end = ap (λ (o : Placed). o .next) e ∙ rw t in omega arith
+
 pub part-inside : (b : List ℕ) (at : ℕ) (s : List ℕ) (from n : ℕ) → from + n ≤ length s → putPart b at s from n ≡ putAt b at (take n (drop from s))
 unfolding putPart
 part-inside b at s from n h = rw (le-leb (from + n) (length s) h)

@@ -1,0 +1,4 @@
+pub mod Gate
+pub mod Told
+pub mod Stores
+pub mod Varints

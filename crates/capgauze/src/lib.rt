@@ -1,0 +1,136 @@
+// The face: every entry as a caller is told of it. Each tests its refusals in their order and hands the rest to a core of the rooms below.
+ghost use mathlib.Core.Path.{_≡_};
+ghost use Prim.Native.Nat.{_%_};
+ghost use lib.ListN.{length};
+ghost use Rattle.wire.specs.Varint.{encode};
+ghost use Rattle.wire.specs.Numbers.{typeOf};
+ghost use Rattle.wire.specs.Reading.{wireOf};
+ghost use Rattle.wire.specs.Signed.{toUnsigned, toSigned};
+ghost use Rattle.capgauze.specs.Gate.{gated};
+ghost use Rattle.capgauze.specs.Stores.{Stored, atFront, atEnd};
+ghost use Rattle.capgauze.specs.Varints.{decodeVarint, decodeVarintCapped};
+use wire::Refusal;
+use wire::VarintFound;
+use wire::WireType;
+
+// Whether a reader may read at all.
+pub enum Gated {
+    Open,
+    Shut(Refusal),
+}
+
+// The number of bytes put, or why none were.
+pub enum Put {
+    Done(usize),
+    Refused(Refusal),
+}
+
+// A number and the place after it, or a refusal and the place given.
+pub enum VarintRead {
+    Got(u64, usize),
+    Refused(Refusal, usize),
+}
+
+// What every reader tests first, of a slice's length and two places: TooLong, then BadCap.
+fn gate(len: usize, at: usize, end: usize) -> Gated
+    ensures { λ r. ⌜ r ≡ gated len at end ⌝ }
+{
+    if wire::MESSAGE_LIMIT < len {
+        return Gated::Shut(Refusal::TooLong);
+    }
+    if len < at {
+        return Gated::Shut(Refusal::BadCap);
+    }
+    if len < end {
+        return Gated::Shut(Refusal::BadCap);
+    }
+    Gated::Open
+}
+
+// ---- varints
+
+// How many bytes a number is written as.
+pub fn encoded_len_varint(v: u64) -> usize
+    ensures { λ r. ⌜ r ≡ length (encode v) ⌝ }
+{
+    varint::encoded_len_varint(v)
+}
+
+// A number's bytes at the buffer's front; NoRoom where they do not fit.
+pub fn encode_varint(v: u64, buf: &mut [u8]) -> Put
+    ensures { λ r. ⌜ record { answer = r; buf = now (buf .exit) } ≡ atFront (now (buf .entry)) (encode v) ⌝ }
+{
+    let n = varint::put_varint(buf, 0, v);
+    if n == 0 {
+        return Put::Refused(Refusal::NoRoom);
+    }
+    Put::Done(n)
+}
+
+// A number's bytes at the buffer's end; NoRoom where they do not fit.
+pub fn prepend_varint(v: u64, buf: &mut [u8]) -> Put
+    ensures { λ r. ⌜ record { answer = r; buf = now (buf .exit) } ≡ atEnd (now (buf .entry)) (encode v) ⌝ }
+{
+    let end = buf.len();
+    let start = varint::prepend_varint(buf, end, v);
+    if start == end {
+        return Put::Refused(Refusal::NoRoom);
+    }
+    Put::Done(end - start)
+}
+
+// The varint at a place, read from the slice as far as it goes.
+pub fn decode_varint(s: &[u8], at: usize) -> VarintRead
+    ensures { λ r. ⌜ r ≡ decodeVarint (now (s .entry)) at ⌝ }
+{
+    if let Gated::Shut(r) = gate(s.len(), at, s.len()) {
+        return VarintRead::Refused(r, at);
+    }
+    match varint::decode_varint(s, at) {
+        VarintFound::Got(v, next) => VarintRead::Got(v, next),
+        VarintFound::Refused(r) => VarintRead::Refused(r, at),
+    }
+}
+
+// The varint of a key or a value under an end: read beyond the end too, so that the place after it may be past the end.
+pub fn decode_varint_capped(s: &[u8], at: usize, end: usize) -> VarintRead
+    ensures { λ r. ⌜ r ≡ decodeVarintCapped (now (s .entry)) at end ⌝ }
+{
+    if let Gated::Shut(r) = gate(s.len(), at, end) {
+        return VarintRead::Refused(r, at);
+    }
+    match varint::decode_varint_capped(s, at, end) {
+        VarintFound::Got(v, next) => VarintRead::Got(v, next),
+        VarintFound::Refused(r) => VarintRead::Refused(r, at),
+    }
+}
+
+// A signed number as an unsigned one: v at least 0 gives 2v, v below 0 gives -2v - 1.
+pub fn i64_to_unsigned(v: i64) -> u64
+    ensures { λ r. ⌜ r ≡ toUnsigned v ⌝ }
+{
+    varint::i64_to_unsigned(v)
+}
+
+// Its inverse.
+pub fn u64_to_signed(u: u64) -> i64
+    ensures { λ r. ⌜ r ≡ toSigned u ⌝ }
+{
+    varint::u64_to_signed(u)
+}
+
+// ---- wire types
+
+// The wire type that a key's last two bits name.
+pub fn wire_type_of(key: u64) -> WireType
+    ensures { λ r. ⌜ r ≡ wireOf (key % 4) ⌝ }
+{
+    field::wire_type_of(key)
+}
+
+// A wire type's number.
+pub fn wire_number(wire: WireType) -> u64
+    ensures { λ r. ⌜ r ≡ typeOf wire ⌝ }
+{
+    field::wire_number(wire)
+}
