@@ -1,3 +1,4 @@
+pub mod Only
 pub mod Reading
 pub mod Writing
 pub mod Signed

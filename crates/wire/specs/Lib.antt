@@ -15,3 +15,4 @@ pub mod ReadingLaws
 pub mod Theorem
 pub mod Formats
 pub mod Table
+pub mod Only
