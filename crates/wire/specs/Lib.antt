@@ -16,3 +16,4 @@ pub mod Theorem
 pub mod Formats
 pub mod Table
 pub mod Only
+pub mod Cases
