@@ -1,0 +1,5 @@
+pub mod Walk
+pub mod Seen
+pub mod Present
+pub mod Filling
+pub mod Only

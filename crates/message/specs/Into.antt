@@ -1,0 +1,73 @@
+-- What a whole message is found to be, and what reading it into a table answers and leaves.
+use Prim.Native.Nat.{ℕ, _≤_, _<_}
+use mathlib.Core.Path.{_≡_, refl, ap, _∙_}
+use mathlib.Core.List.{List}
+use native.Mathlib.Omega.{arith}
+use borrow.Author.Tests.{le-leb, lt-leb}
+use lib.Dec.{leb}
+use lib.ListN.{length}
+use Rattle.wire.specs.Choose.{choose}
+use Rattle.wire.specs.Reading.{Message, Fields, readMessage}
+use Rattle.wire.specs.Reading as reading
+use Rattle.wire.specs.Table.{room, filled}
+use Rattle.wire.specs.declared.Refusal.{Refusal}
+use Rattle.wire.specs.declared.Refusal.the-variants.{NoRoom}
+use Rattle.wire.specs.declared.Field.{Field}
+use Rattle.wire.specs.declared.Read.{Read}
+use Rattle.wire.specs.declared.Read.the-variants.{Accepted, Refused}
+use Rattle.message.specs.declared.Decided.{Decided}
+use Rattle.message.specs.declared.Decided.the-variants as decidedAs
+
+-- ---- decided: the number of fields, or a refusal with its place
+
+abbrev pub decided : Message → Decided
+decided (Fields fs) = decidedAs.Fields (length fs)
+decided (reading.Refused r p) = decidedAs.Refused r p
+
+-- what was decided says of the message
+pub decided-fields : (m : Message) (n : ℕ) → decided m ≡ decidedAs.Fields n → (fs : List Field) × (m ≡ Fields fs) × (length fs ≡ n)
+decided-fields (Fields fs) n e = (fs, refl, cc)
+decided-fields (reading.Refused r p) n e = let z : _≡_ {A = ℕ} 0 1 = cc in absurd (omega arith)
+
+pub decided-refused : (m : Message) (r : Refusal) (p : ℕ) → decided m ≡ decidedAs.Refused r p → m ≡ reading.Refused r p
+decided-refused (Fields fs) r p e = let z : _≡_ {A = ℕ} 0 1 = cc in absurd (omega arith)
+decided-refused (reading.Refused x q) r p e = let a : x ≡ r = cc in let b : q ≡ p = cc in cc
+
+-- ---- read into a table
+
+-- what a message reader answers, and what it leaves in the table
+pub record Outcome : Type 0 where
+  pub answer : Read
+  pub table : List ℕ
+
+abbrev pub outcome : Read → List ℕ → Outcome
+outcome r t = record { answer = r; table = t }
+
+-- an accepted message with room is in the table, and the end and the count are told; one without is NoRoom with the fields needed; a refusal
+-- of the format has its place, and leaves the table
+abbrev pub landed : ℕ → List ℕ → Message → Outcome
+landed e t (Fields fs) = choose (leb (length fs) (room t)) (outcome (Accepted e (length fs)) (filled t fs)) (outcome (Refused NoRoom 0 (length fs)) t)
+landed e t (reading.Refused r p) = outcome (Refused r p 0) t
+
+unfoldable pub readInto : List ℕ → ℕ → ℕ → List ℕ → Outcome
+readInto s start e t = landed e t (readMessage s start e)
+
+-- its three cases
+module _ (s : List ℕ) (start e : ℕ) (t : List ℕ) where
+  pub into-refused : (r : Refusal) (p : ℕ) → readMessage s start e ≡ reading.Refused r p → readInto s start e t ≡ outcome (Refused r p 0) t
+  unfolding readInto
+  into-refused r p h = ap (landed e t) h
+
+  pub into-no-room : (fs : List Field) → readMessage s start e ≡ Fields fs → room t < length fs → readInto s start e t ≡ outcome (Refused NoRoom 0 (length fs)) t
+  unfolding readInto
+  into-no-room fs h g = ap (landed e t) h ∙ rw (lt-leb (length fs) (room t) g)
+
+  pub into-fits : (fs : List Field) → readMessage s start e ≡ Fields fs → length fs ≤ room t
+      → readInto s start e t ≡ outcome (Accepted e (length fs)) (filled t fs)
+  unfolding readInto
+  into-fits fs h g = ap (landed e t) h ∙ rw (le-leb (length fs) (room t) g)
+
+-- the table alone
+abbrev pub intoTable : List ℕ → Message → List ℕ
+intoTable t (Fields fs) = filled t fs
+intoTable t (reading.Refused r p) = t
