@@ -10,6 +10,7 @@ ghost use Rattle.wire.specs.Reading.{varintAt, readMessage};
 ghost use Rattle.wire.specs.Table.{words};
 ghost use Rattle.wire.specs.declared.VarintFound.the-variants.{Got};
 ghost use Rattle.message.specs.Into.{decided, Outcome, readInto, intoTable};
+ghost use Rattle.message.specs.Payload.{spanOf};
 ghost use Rattle.message.specs.Second.{Fits, Varinted, Valued, Worded};
 ghost use Rattle.message.specs.Tags.{sought};
 use wire::Field;
@@ -30,6 +31,12 @@ pub enum Sought {
     Found(Field, usize),
     Absent(usize),
     Refused(Refusal),
+}
+
+// A part of a slice: where it starts, and its length.
+pub struct Span {
+    pub start: usize,
+    pub length: usize,
 }
 
 struct Known {
@@ -256,5 +263,31 @@ pub fn read_into(s: &[u8], start: usize, end: usize, table: &mut [u64]) -> Read
             fill(s, start, end, table);
             Read::Accepted(end, n)
         }
+    }
+}
+
+// Where a record's payload stands in a slice of so many bytes. A start and a length that would wrap are inside no slice.
+pub fn payload_span(len: usize, r: Record) -> Span
+    ensures { λ p. ⌜ p ≡ spanOf len r ⌝ }
+{
+    let none = Span {
+        start: 0,
+        length: 0,
+    };
+    if r.kind != 1 {
+        return none;
+    }
+    if wire::LAST_TAG < r.tag {
+        return none;
+    }
+    if (len as u64) < r.value {
+        return none;
+    }
+    if (len as u64) - r.value < r.length {
+        return none;
+    }
+    Span {
+        start: r.value as usize,
+        length: r.length as usize,
     }
 }
