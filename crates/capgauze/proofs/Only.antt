@@ -2,7 +2,9 @@
 use mathlib.Core.Path.{_∙_, sym}
 use denote.Ref.{now}
 use Rattle.wire.specs.Only.{One}
+use Rattle.message.specs.Into.{Outcome}
 use Rattle.capgauze.specs.Stores.{Stored}
+use Rattle.capgauze.specs.Messages.{partOf}
 use Rattle.capgauze.proofs.encoded_len_varint.Kinds as encoded-len-varint
 use Rattle.capgauze.proofs.encoded_len_varint.Reads as encoded-len-varint-reads
 use Rattle.capgauze.proofs.encode_varint.Kinds as encode-varint
@@ -21,6 +23,14 @@ use Rattle.capgauze.proofs.wire_type_of.Kinds as wire-type-of
 use Rattle.capgauze.proofs.wire_type_of.Reads as wire-type-of-reads
 use Rattle.capgauze.proofs.wire_number.Kinds as wire-number
 use Rattle.capgauze.proofs.wire_number.Reads as wire-number-reads
+use Rattle.capgauze.proofs.read_message.Kinds as read-message
+use Rattle.capgauze.proofs.read_message.Reads as read-message-reads
+use Rattle.capgauze.proofs.payload_of.Kinds as payload-of
+use Rattle.capgauze.proofs.payload_of.Reads as payload-of-reads
+use Rattle.capgauze.proofs.read_payload.Kinds as read-payload
+use Rattle.capgauze.proofs.read_payload.Reads as read-payload-reads
+use Rattle.capgauze.proofs.pick.Kinds as pick
+use Rattle.capgauze.proofs.pick.Reads as pick-reads
 
 pub encoded-len-varint-one : One 0 encoded-len-varint.ps encoded-len-varint.r encoded-len-varint-reads.Post (λ κs r s. r)
 encoded-len-varint-one κs a x y s t p q = p ∙ sym q
@@ -48,3 +58,16 @@ wire-type-of-one κs a x y s t p q = p ∙ sym q
 
 pub wire-number-one : One 0 wire-number.ps wire-number.r wire-number-reads.Post (λ κs r s. r)
 wire-number-one κs a x y s t p q = p ∙ sym q
+
+pub read-message-one : One 2 read-message.ps read-message.r read-message-reads.Post {S = Outcome} (λ κs r s. record { answer = r; table = now (s .1 .1 .1 .0) })
+read-message-one κs a x y s t p q = p ∙ sym q
+
+-- of a part that is answered its block, its place there and its bytes are seen; the name that the logic gives it is not
+pub payload-of-one : One 1 payload-of.ps payload-of.r payload-of-reads.Post (λ κs r s. partOf r)
+payload-of-one κs a x y s t p q = p ∙ sym q
+
+pub read-payload-one : One 2 read-payload.ps read-payload.r read-payload-reads.Post {S = Outcome} (λ κs r s. record { answer = r; table = now (s .1 .1 .0) })
+read-payload-one κs a x y s t p q = p ∙ sym q
+
+pub pick-one : One 1 pick.ps pick.r pick-reads.Post (λ κs r s. r)
+pick-one κs a x y s t p q = p ∙ sym q

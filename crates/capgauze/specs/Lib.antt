@@ -2,3 +2,4 @@ pub mod Gate
 pub mod Told
 pub mod Stores
 pub mod Varints
+pub mod Messages

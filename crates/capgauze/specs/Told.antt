@@ -1,10 +1,15 @@
 -- The paper's number and values for each case of each answer.
 use Prim.Native.Nat.{ℕ}
 use Rattle.wire.specs.Numbers.{numberOf}
+use Rattle.wire.specs.Table.{kindWord, valueWord, lengthWord}
+use Rattle.wire.specs.declared.Read.{Read}
+use Rattle.wire.specs.declared.Read.the-variants as read
 use Rattle.capgauze.specs.declared.Put.{Put}
 use Rattle.capgauze.specs.declared.Put.the-variants as put
 use Rattle.capgauze.specs.declared.VarintRead.{VarintRead}
 use Rattle.capgauze.specs.declared.VarintRead.the-variants as varintRead
+use Rattle.capgauze.specs.declared.Picked.{Picked}
+use Rattle.capgauze.specs.declared.Picked.the-variants as picked
 
 -- a length or a count
 pub record Number : Type 0 where
@@ -23,3 +28,26 @@ pub record Varint : Type 0 where
 abbrev pub varintTold : VarintRead → Varint
 varintTold (varintRead.Got v q) = record { number = 0; value = v; place = q }
 varintTold (varintRead.Refused r p) = record { number = numberOf r; value = 0; place = p }
+
+-- a message: the place and the count
+pub record Message : Type 0 where
+  pub number : ℕ
+  pub place : ℕ
+  pub count : ℕ
+
+abbrev pub readTold : Read → Message
+readTold (read.Accepted p n) = record { number = 0; place = p; count = n }
+readTold (read.Refused r p n) = record { number = numberOf r; place = p; count = n }
+
+-- a field that was looked for: whether it was found, its type, and its value as a record has it
+pub record Pick : Type 0 where
+  pub number : ℕ
+  pub found : ℕ
+  pub type : ℕ
+  pub value : ℕ
+  pub length : ℕ
+
+abbrev pub pickedTold : Picked → Pick
+pickedTold (picked.Found f) = record { number = 0; found = 1; type = kindWord (f .value); value = valueWord (f .value); length = lengthWord (f .value) }
+pickedTold picked.Absent = record { number = 0; found = 0; type = 0; value = 0; length = 0 }
+pickedTold (picked.Refused r) = record { number = numberOf r; found = 0; type = 0; value = 0; length = 0 }

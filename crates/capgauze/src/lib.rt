@@ -6,9 +6,15 @@ ghost use Rattle.wire.specs.Varint.{encode};
 ghost use Rattle.wire.specs.Numbers.{typeOf};
 ghost use Rattle.wire.specs.Reading.{wireOf};
 ghost use Rattle.wire.specs.Signed.{toUnsigned, toSigned};
+ghost use Rattle.message.specs.Into.{Outcome};
 ghost use Rattle.capgauze.specs.Gate.{gated};
+ghost use Rattle.capgauze.specs.Messages.{Part, partOf, readEntry, payloadPart, readPayload, pickEntry};
 ghost use Rattle.capgauze.specs.Stores.{Stored, atFront, atEnd};
 ghost use Rattle.capgauze.specs.Varints.{decodeVarint, decodeVarintCapped};
+use message::Sought;
+use wire::Field;
+use wire::Read;
+use wire::Record;
 use wire::Refusal;
 use wire::VarintFound;
 use wire::WireType;
@@ -29,6 +35,13 @@ pub enum Put {
 pub enum VarintRead {
     Got(u64, usize),
     Refused(Refusal, usize),
+}
+
+// The first field of a tag, or that there is none, or why the message has none.
+pub enum Picked {
+    Found(Field),
+    Absent,
+    Refused(Refusal),
 }
 
 // What every reader tests first, of a slice's length and two places: TooLong, then BadCap.
@@ -133,4 +146,50 @@ pub fn wire_number(wire: WireType) -> u64
     ensures { λ r. ⌜ r ≡ typeOf wire ⌝ }
 {
     field::wire_number(wire)
+}
+
+// ---- messages
+
+// A message of a slice, from a place up to an end, read into a table. A refusal leaves the table as it was.
+pub fn read_message(s: &[u8], start: usize, end: usize, table: &mut [u64]) -> Read
+    ensures { λ r. ⌜ record { answer = r; table = now (table .exit) } ≡ readEntry (now (s .entry)) start end (now (table .entry)) ⌝ }
+{
+    if let Gated::Shut(r) = gate(s.len(), start, end) {
+        return Read::Refused(r, 0, 0);
+    }
+    message::read_into(s, start, end, table)
+}
+
+// A record's payload: the part of the message, not a copy. A record that is not a good LengthDelimited one of this message has the empty
+// part at its front.
+pub fn payload_of<'a>(message: &'a [u8], r: Record) -> &'a [u8]
+    ensures { λ p. ⌜ partOf p ≡ payloadPart (message .entry) r ⌝ }
+{
+    let p = message::payload_span(message.len(), r);
+    let start = p.start;
+    let end = start + p.length;
+    &message[start..end]
+}
+
+// A record's payload read as a message in itself: places count from its first byte. A record that has no payload is the empty message, which
+// is accepted.
+pub fn read_payload(message: &[u8], r: Record, table: &mut [u64]) -> Read
+    ensures { λ a. ⌜ record { answer = a; table = now (table .exit) } ≡ readPayload (now (message .entry)) r (now (table .entry)) ⌝ }
+{
+    let part = payload_of(message, r);
+    read_message(part, 0, part.len(), table)
+}
+
+// The first field of a tag, in a message that is read whole.
+pub fn pick(s: &[u8], tag: u32) -> Picked
+    ensures { λ r. ⌜ r ≡ pickEntry (now (s .entry)) tag ⌝ }
+{
+    if let Gated::Shut(r) = gate(s.len(), 0, s.len()) {
+        return Picked::Refused(r);
+    }
+    match message::find_tag(s, 0, s.len(), tag, 0) {
+        Sought::Found(f, _) => Picked::Found(f),
+        Sought::Absent(_) => Picked::Absent,
+        Sought::Refused(r) => Picked::Refused(r),
+    }
 }

@@ -1,11 +1,11 @@
 -- A record's payload, as a part of the message that the record was read from.
-use Prim.Native.Nat.{ℕ, suc, _+_, _^_, _≤_, _<_}
-use mathlib.Core.Path.{_≡_, refl, ap, _∙_, sym}
+use Prim.Native.Nat.{ℕ, _+_, _^_, _≤_, _<_}
+use mathlib.Core.Path.{_≡_, refl}
 use mathlib.Core.Bool.{Bool, true, false}
 use mathlib.Core.List.{List}
 use native.Mathlib.Omega.{arith}
-use borrow.Author.Tests.{lt-ltb, le-ltb, le-leb, lt-leb, eq-eqb, ne-eqb}
-use lib.Dec.{eqb}
+use borrow.Author.Tests.{lt-ltb, le-ltb, le-leb, lt-leb, eq-eqb, ne-eqb, ltb-true, ltb-false, leb-true, leb-false, eqb-true, eqb-false}
+use lib.Dec.{ltb, leb, eqb}
 use lib.ListN.{length, take, drop}
 use Rattle.wire.specs.Choose.{choose}
 use Rattle.wire.specs.Table.{goodValue, good}
@@ -43,3 +43,15 @@ module _ (n : ℕ) (r : Record) where
     pub span-inside : r .tag < 2 ^ 32 → r .value + r .length ≤ n → spanOf n r ≡ record { start = r .value; length = r .length }
     unfolding spanOf good goodValue
     span-inside h g = rw (k, lt-ltb (r .tag) (2 ^ 32) h, le-leb (r .value + r .length) n g)
+
+  -- it lies inside the slice
+  pub span-within : spanOf n r .start + spanOf n r .length ≤ n
+  span-within = go (eqb (r .kind) 1) refl (ltb (r .tag) (2 ^ 32)) refl (leb (r .value + r .length) n) refl
+    where
+      go : (a : Bool) → eqb (r .kind) 1 ≡ a → (b : Bool) → ltb (r .tag) (2 ^ 32) ≡ b → (c : Bool) → leb (r .value + r .length) n ≡ c → spanOf n r .start + spanOf n r .length ≤ n
+      go false k b t c v = rw (span-kind (eqb-false (r .kind) 1 k)) (omega arith)
+      go true k false t c v = rw (span-tag (eqb-true (r .kind) 1 k) (ltb-false (r .tag) (2 ^ 32) t)) (omega arith)
+      go true k true t false v =
+          rw (span-outside (eqb-true (r .kind) 1 k) (ltb-true (r .tag) (2 ^ 32) t) (leb-false (r .value + r .length) n v)) (omega arith)
+      go true k true t true v =
+          rw (span-inside (eqb-true (r .kind) 1 k) (ltb-true (r .tag) (2 ^ 32) t) (leb-true (r .value + r .length) n v)) (leb-true (r .value + r .length) n v)
