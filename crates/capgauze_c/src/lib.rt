@@ -1,0 +1,317 @@
+// The face for C: one exported function for each entry, with numbers, slices and plain structs. Every answer that can be refused is a struct whose
+// first word is the paper's number; `told` says what the other words are. A wire type passes as a number; one above 3 is BadRecord, before all else.
+ghost use mathlib.Core.Path.{_≡_};
+ghost use lib.ListN.{length as size};
+ghost use Rattle.wire.specs.Numbers.{numberOf};
+ghost use Rattle.wire.specs.Table.{kindWord, valueWord, lengthWord};
+ghost use Rattle.wire.specs.Varint.{encode};
+ghost use Rattle.wire.specs.Signed.{toUnsigned, toSigned};
+ghost use Rattle.message.specs.Payload.{spanOf};
+ghost use Rattle.capgauze.specs.Told.{putTold, varintTold, readTold, pickedTold};
+ghost use Rattle.capgauze.specs.Varints.{decodeVarint, decodeVarintCapped};
+ghost use Rattle.capgauze.specs.Stores.{atFront, atEnd};
+ghost use Rattle.capgauze.specs.Messages.{readEntry, readPayload, pickEntry};
+ghost use Rattle.capgauze_c.specs.Words.{Lent, asNumber, asVarint, asRead, asPicked, asPart, storedTold, outcomeTold};
+use capgauze::Picked;
+use capgauze::Put;
+use capgauze::VarintRead;
+use wire::Read;
+use wire::Record;
+use wire::Refusal;
+use wire::Value;
+
+// A length or a count.
+#[repr(C)]
+pub struct Number {
+    pub number: u64,
+    pub value: u64,
+}
+
+#[repr(C)]
+pub struct Varint {
+    pub number: u64,
+    pub value: u64,
+    pub place: u64,
+}
+
+#[repr(C)]
+pub struct ReadWords {
+    pub number: u64,
+    pub place: u64,
+    pub count: u64,
+}
+
+#[repr(C)]
+pub struct PickWords {
+    pub number: u64,
+    pub found: u64,
+    pub kind: u64,
+    pub value: u64,
+    pub length: u64,
+}
+
+#[repr(C)]
+pub struct Part {
+    pub start: u64,
+    pub length: u64,
+}
+
+// The paper's number of a refusal.
+fn number_of(r: Refusal) -> u64
+    ensures { λ n. ⌜ n ≡ numberOf r ⌝ }
+{
+    match r {
+        Refusal::Truncated => 1,
+        Refusal::InvalidVarint => 2,
+        Refusal::TagOverflowed => 3,
+        Refusal::TooLong => 4,
+        Refusal::NoRoom => 5,
+        Refusal::BadRecord => 6,
+        Refusal::OutOfOrder => 7,
+        Refusal::BadCap => 8,
+    }
+}
+
+// ---- the words of each answer
+
+struct ValueParts {
+    kind: u64,
+    value: u64,
+    length: u64,
+}
+
+// A value as the last three words of its record.
+fn value_words(v: Value) -> ValueParts
+    ensures { λ r. ⌜ (r .kind ≡ kindWord v) × (r .value ≡ valueWord v) × (r .length ≡ lengthWord v) ⌝ }
+{
+    match v {
+        Value::Varint(n) => ValueParts {
+            kind: 0,
+            value: n,
+            length: 0,
+        },
+        Value::LengthDelimited(p, n) => ValueParts {
+            kind: 1,
+            value: p as u64,
+            length: n as u64,
+        },
+        Value::ThirtyTwoBit(n) => ValueParts {
+            kind: 2,
+            value: n as u64,
+            length: 4,
+        },
+        Value::SixtyFourBit(n) => ValueParts {
+            kind: 3,
+            value: n,
+            length: 8,
+        },
+    }
+}
+
+fn put_words(p: Put) -> Number
+    ensures { λ r. ⌜ asNumber r ≡ putTold p ⌝ }
+{
+    match p {
+        Put::Done(n) => Number {
+            number: 0,
+            value: n as u64,
+        },
+        Put::Refused(r) => Number {
+            number: number_of(r),
+            value: 0,
+        },
+    }
+}
+
+fn varint_words(v: VarintRead) -> Varint
+    ensures { λ r. ⌜ asVarint r ≡ varintTold v ⌝ }
+{
+    match v {
+        VarintRead::Got(n, next) => Varint {
+            number: 0,
+            value: n,
+            place: next as u64,
+        },
+        VarintRead::Refused(r, at) => Varint {
+            number: number_of(r),
+            value: 0,
+            place: at as u64,
+        },
+    }
+}
+
+fn read_words(m: Read) -> ReadWords
+    ensures { λ r. ⌜ asRead r ≡ readTold m ⌝ }
+{
+    match m {
+        Read::Accepted(p, n) => ReadWords {
+            number: 0,
+            place: p as u64,
+            count: n as u64,
+        },
+        Read::Refused(r, p, n) => ReadWords {
+            number: number_of(r),
+            place: p as u64,
+            count: n as u64,
+        },
+    }
+}
+
+// A value's two words, as a record has them, and its type's number; with `found` before them.
+fn pick_words(p: Picked) -> PickWords
+    ensures { λ r. ⌜ asPicked r ≡ pickedTold p ⌝ }
+{
+    match p {
+        Picked::Found(f) => {
+            let v = f.value;
+            let w = value_words(v);
+            PickWords {
+                number: 0,
+                found: 1,
+                kind: w.kind,
+                value: w.value,
+                length: w.length,
+            }
+        }
+        Picked::Absent => PickWords {
+            number: 0,
+            found: 0,
+            kind: 0,
+            value: 0,
+            length: 0,
+        },
+        Picked::Refused(r) => PickWords {
+            number: number_of(r),
+            found: 0,
+            kind: 0,
+            value: 0,
+            length: 0,
+        },
+    }
+}
+
+// ---- varints
+
+// How many bytes a number is written as.
+#[no_mangle]
+pub extern "C" fn capgauze_encoded_len_varint(v: u64) -> u64
+    ensures { λ r. ⌜ r ≡ size (encode v) ⌝ }
+{
+    capgauze::encoded_len_varint(v) as u64
+}
+
+// A signed number as an unsigned one.
+#[no_mangle]
+pub extern "C" fn capgauze_i64_to_unsigned(v: i64) -> u64
+    ensures { λ r. ⌜ r ≡ toUnsigned v ⌝ }
+{
+    capgauze::i64_to_unsigned(v)
+}
+
+// Its inverse.
+#[no_mangle]
+pub extern "C" fn capgauze_u64_to_signed(u: u64) -> i64
+    ensures { λ r. ⌜ r ≡ toSigned u ⌝ }
+{
+    capgauze::u64_to_signed(u)
+}
+
+// The varint at a place.
+#[no_mangle]
+pub extern "C" fn capgauze_decode_varint(s: &[u8], at: usize) -> Varint
+    ensures { λ r. ⌜ asVarint r ≡ varintTold (decodeVarint (now (s .entry)) at) ⌝ }
+{
+    varint_words(capgauze::decode_varint(s, at))
+}
+
+// The varint of a key or a value under an end.
+#[no_mangle]
+pub extern "C" fn capgauze_decode_varint_capped(s: &[u8], at: usize, end: usize) -> Varint
+    ensures { λ r. ⌜ asVarint r ≡ varintTold (decodeVarintCapped (now (s .entry)) at end) ⌝ }
+{
+    varint_words(capgauze::decode_varint_capped(s, at, end))
+}
+
+// A number's bytes at the buffer's front.
+#[no_mangle]
+pub extern "C" fn capgauze_encode_varint(v: u64, buf: &mut [u8]) -> Number
+    ensures { λ r. ⌜ record { told = asNumber r; lent = now (buf .exit) } ≡ storedTold (atFront (now (buf .entry)) (encode v)) ⌝ }
+{
+    put_words(capgauze::encode_varint(v, buf))
+}
+
+// A number's bytes at the buffer's end.
+#[no_mangle]
+pub extern "C" fn capgauze_prepend_varint(v: u64, buf: &mut [u8]) -> Number
+    ensures { λ r. ⌜ record { told = asNumber r; lent = now (buf .exit) } ≡ storedTold (atEnd (now (buf .entry)) (encode v)) ⌝ }
+{
+    put_words(capgauze::prepend_varint(v, buf))
+}
+
+// ---- messages
+
+// A message read into a table.
+#[no_mangle]
+pub extern "C" fn capgauze_read_message(
+    s: &[u8],
+    start: usize,
+    end: usize,
+    table: &mut [u64],
+) -> ReadWords
+    ensures { λ r. ⌜ record { told = asRead r; lent = now (table .exit) } ≡ outcomeTold (readEntry (now (s .entry)) start end (now (table .entry))) ⌝ }
+{
+    read_words(capgauze::read_message(s, start, end, table))
+}
+
+// Where a record's payload stands in the message.
+#[no_mangle]
+pub extern "C" fn capgauze_payload_of(
+    s: &[u8],
+    tag: u64,
+    kind: u64,
+    value: u64,
+    length: u64,
+) -> Part
+    ensures { λ r. ⌜ asPart r ≡ spanOf (size (now (s .entry))) (record { tag = tag; kind = kind; value = value; length = length }) ⌝ }
+{
+    let r = Record {
+        tag: tag,
+        kind: kind,
+        value: value,
+        length: length,
+    };
+    let p = message::payload_span(s.len(), r);
+    Part {
+        start: p.start as u64,
+        length: p.length as u64,
+    }
+}
+
+// A record's payload read as a message in itself.
+#[no_mangle]
+pub extern "C" fn capgauze_read_payload(
+    s: &[u8],
+    tag: u64,
+    kind: u64,
+    value: u64,
+    length: u64,
+    table: &mut [u64],
+) -> ReadWords
+    ensures { λ r. ⌜ record { told = asRead r; lent = now (table .exit) } ≡ outcomeTold (readPayload (now (s .entry)) (record { tag = tag; kind = kind; value = value; length = length }) (now (table .entry))) ⌝ }
+{
+    let r = Record {
+        tag: tag,
+        kind: kind,
+        value: value,
+        length: length,
+    };
+    read_words(capgauze::read_payload(s, r, table))
+}
+
+// The first field of a tag.
+#[no_mangle]
+pub extern "C" fn capgauze_pick(s: &[u8], tag: u32) -> PickWords
+    ensures { λ r. ⌜ asPicked r ≡ pickedTold (pickEntry (now (s .entry)) tag) ⌝ }
+{
+    pick_words(capgauze::pick(s, tag))
+}
