@@ -1,10 +1,13 @@
-// One field under a cap: its key, then its value. From src/encoding/mod.rs (`Capped`, `decode_key`) and opaque.rs.
+// One field under a cap: its key, then its value; and keys written. From src/encoding/mod.rs (`Capped`, `decode_key`, `TagWriter`,
+// `TagRevWriter`, `RuntimeTagMeasurer`) and opaque.rs.
 ghost use mathlib.Core.Path.{_≡_};
 ghost use mathlib.Core.List.{_∷_, []};
-ghost use Prim.Native.Nat.{_+_, _≤_, _<_, _%_, _^_};
+ghost use Prim.Native.Nat.{_+_, _-_, _*_, _≤_, _<_, _%_, _^_};
 ghost use lib.ListN.{length, take, drop};
-ghost use Rattle.wire.specs.Fixed.{number};
+ghost use Rattle.place.specs.Place.{Placed, putAt, prependAt};
 ghost use Rattle.wire.specs.Numbers.{typeOf};
+ghost use Rattle.wire.specs.Varint.{encode};
+ghost use Rattle.wire.specs.Fixed.{number};
 ghost use Rattle.wire.specs.Reading.{wireOf, keyAt, valueAt, fieldAt};
 ghost use Rattle.wire.specs.declared.WireType.the-variants.{Varint, LengthDelimited, ThirtyTwoBit, SixtyFourBit};
 use wire::Field;
@@ -29,7 +32,7 @@ pub fn wire_type_of(key: u64) -> WireType
     }
 }
 
-// A wire type's number.
+// The number of a wire type.
 pub fn wire_number(wire: WireType) -> u64
     ensures { λ r. ⌜ r ≡ typeOf wire ⌝ }
 {
@@ -40,6 +43,45 @@ pub fn wire_number(wire: WireType) -> u64
         WireType::SixtyFourBit => 3,
     }
 }
+
+// ---- keys written
+
+// How far a tag lies ahead of the last one; 0 if it doesn't.
+fn ahead(last: u32, tag: u32) -> u64
+    ensures { λ r. ⌜ r ≡ tag - last ⌝ }
+{
+    if last < tag { (tag - last) as u64 } else { 0 }
+}
+
+// The number that a key is.
+fn key_of(last: u32, tag: u32, wire: WireType) -> u64
+    ensures { λ r. ⌜ r ≡ 4 * (tag - last) + typeOf wire ⌝ }
+{
+    4 * ahead(last, tag) + wire_number(wire)
+}
+
+// How many bytes a key takes. The wire type is left out: it never changes the length.
+pub fn key_len(last: u32, tag: u32) -> usize
+    ensures { λ r. ⌜ r ≡ length (encode (4 * (tag - last))) ⌝ }
+{
+    varint::encoded_len_varint(4 * ahead(last, tag))
+}
+
+// A key's bytes from a place on, and the place after them; the place given, and nothing written, where they have no room.
+pub fn put_key(buf: &mut [u8], at: usize, last: u32, tag: u32, wire: WireType) -> usize
+    ensures { λ r. ⌜ record { next = r; buf = now (buf .exit) } ≡ putAt (now (buf .entry)) at (encode (4 * (tag - last) + typeOf wire)) ⌝ }
+{
+    varint::put_varint(buf, at, key_of(last, tag, wire))
+}
+
+// A key's bytes up to a place, and the place where they start; the place given, and nothing written, where they have no room.
+pub fn prepend_key(buf: &mut [u8], end: usize, last: u32, tag: u32, wire: WireType) -> usize
+    ensures { λ r. ⌜ record { next = r; buf = now (buf .exit) } ≡ prependAt (now (buf .entry)) end (encode (4 * (tag - last) + typeOf wire)) ⌝ }
+{
+    varint::prepend_varint(buf, end, key_of(last, tag, wire))
+}
+
+// ---- fields read
 
 // A key: its tag, its wire type and the place after it.
 pub fn decode_key(s: &[u8], at: usize, end: usize, last: u32) -> KeyFound

@@ -10,6 +10,7 @@ pub mod Signed
 pub mod Written
 pub mod Reading
 pub mod Skipping
+pub mod Types
 pub mod Places
 pub mod ReadingLaws
 pub mod Theorem
