@@ -9,6 +9,7 @@ ghost use Rattle.wire.specs.Numbers.{typeOf};
 ghost use Rattle.wire.specs.Varint.{encode};
 ghost use Rattle.wire.specs.Fixed.{number};
 ghost use Rattle.wire.specs.Reading.{wireOf, keyAt, valueAt, fieldAt};
+ghost use Rattle.field.specs.Inside.{inside};
 ghost use Rattle.wire.specs.declared.WireType.the-variants.{Varint, LengthDelimited, ThirtyTwoBit, SixtyFourBit};
 use wire::Field;
 use wire::FieldFound;
@@ -139,40 +140,48 @@ pub fn four_bytes(a: u8, b: u8, c: u8, d: u8) -> u64
     (a as u64) + (b as u64) * 0x100 + (c as u64) * 0x1_0000 + (d as u64) * 0x100_0000
 }
 
+// The number of the four bytes at a place.
+fn four_from(s: &[u8], at: usize) -> u32
+    requires { ⌜ at + 4 ≤ length (now s) ⌝ }
+    ensures { λ r. ⌜ r ≡ number (take 4 (drop at (now (s .entry)))) ⌝ }
+{
+    four_bytes(s[at], s[at + 1], s[at + 2], s[at + 3]) as u32
+}
+
+// Whether n bytes from a place on stand in a slice of so many, and before the end.
+fn has(len: usize, at: usize, end: usize, n: usize) -> bool
+    ensures { λ r. ⌜ r ≡ inside len end (at + n) ⌝ }
+{
+    if len < at {
+        return false;
+    }
+    if len - at < n {
+        return false;
+    }
+    at + n <= end
+}
+
 fn four_at(s: &[u8], at: usize, end: usize) -> ValueFound
     ensures { λ r. ⌜ r ≡ valueAt (now (s .entry)) end at ThirtyTwoBit ⌝ }
 {
-    if s.len() < at {
-        return ValueFound::Refused(Refusal::Truncated);
+    if has(s.len(), at, end, 4) {
+        return ValueFound::Got(Value::ThirtyTwoBit(four_from(s, at)), at + 4);
     }
-    if s.len() - at < 4 {
-        return ValueFound::Refused(Refusal::Truncated);
-    }
-    if end < at + 4 {
-        return ValueFound::Refused(Refusal::Truncated);
-    }
-    let v = four_bytes(s[at], s[at + 1], s[at + 2], s[at + 3]);
-    ValueFound::Got(Value::ThirtyTwoBit(v as u32), at + 4)
+    ValueFound::Refused(Refusal::Truncated)
 }
 
 fn eight_at(s: &[u8], at: usize, end: usize) -> ValueFound
     ensures { λ r. ⌜ r ≡ valueAt (now (s .entry)) end at SixtyFourBit ⌝ }
 {
-    if s.len() < at {
-        return ValueFound::Refused(Refusal::Truncated);
+    if has(s.len(), at, end, 8) {
+        let low = four_from(s, at) as u64;
+        let high = four_from(s, at + 4) as u64;
+        return ValueFound::Got(Value::SixtyFourBit(low + high * 0x1_0000_0000), at + 8);
     }
-    if s.len() - at < 8 {
-        return ValueFound::Refused(Refusal::Truncated);
-    }
-    if end < at + 8 {
-        return ValueFound::Refused(Refusal::Truncated);
-    }
-    let low = four_bytes(s[at], s[at + 1], s[at + 2], s[at + 3]);
-    let high = four_bytes(s[at + 4], s[at + 5], s[at + 6], s[at + 7]);
-    ValueFound::Got(Value::SixtyFourBit(low + high * 0x1_0000_0000), at + 8)
+    ValueFound::Refused(Refusal::Truncated)
 }
 
-// The same by the number of the type, which is what a key holds: two tests, no table of jumps.
+// A value by the number of its type, which is what a key holds: two tests, no table of jumps.
 fn value_of_kind(s: &[u8], at: usize, end: usize, kind: u64) -> ValueFound
     ensures { λ r. ⌜ r ≡ valueAt (now (s .entry)) end at (wireOf kind) ⌝ }
 {
@@ -192,12 +201,7 @@ fn value_of_kind(s: &[u8], at: usize, end: usize, kind: u64) -> ValueFound
 pub fn decode_value(s: &[u8], at: usize, end: usize, wire: WireType) -> ValueFound
     ensures { λ r. ⌜ r ≡ valueAt (now (s .entry)) end at wire ⌝ }
 {
-    match wire {
-        WireType::Varint => number_at(s, at, end),
-        WireType::LengthDelimited => payload_at(s, at, end),
-        WireType::ThirtyTwoBit => four_at(s, at, end),
-        WireType::SixtyFourBit => eight_at(s, at, end),
-    }
+    value_of_kind(s, at, end, wire_number(wire))
 }
 
 // A key, then its value. The place after it may be past the end.
