@@ -181,7 +181,7 @@ fn eight_at(s: &[u8], at: usize, end: usize) -> ValueFound
     ValueFound::Refused(Refusal::Truncated)
 }
 
-// A value by the number of its type, which is what a key holds: two tests, no table of jumps.
+// A value by the number of its type: two tests, no table of jumps. It has one caller, and so is folded into it.
 fn value_of_kind(s: &[u8], at: usize, end: usize, kind: u64) -> ValueFound
     ensures { λ r. ⌜ r ≡ valueAt (now (s .entry)) end at (wireOf kind) ⌝ }
 {
@@ -201,25 +201,28 @@ fn value_of_kind(s: &[u8], at: usize, end: usize, kind: u64) -> ValueFound
 pub fn decode_value(s: &[u8], at: usize, end: usize, wire: WireType) -> ValueFound
     ensures { λ r. ⌜ r ≡ valueAt (now (s .entry)) end at wire ⌝ }
 {
-    value_of_kind(s, at, end, wire_number(wire))
+    match wire {
+        WireType::Varint => number_at(s, at, end),
+        WireType::LengthDelimited => payload_at(s, at, end),
+        WireType::ThirtyTwoBit => four_at(s, at, end),
+        WireType::SixtyFourBit => eight_at(s, at, end),
+    }
 }
 
-// A key, then its value. The place after it may be past the end.
+// A key, then its value. The place after it may be past the end. This is for the message reader's loop, and folded into it as long as
+// it is called in one place; another caller takes decode_key and decode_value.
 pub fn decode_field(s: &[u8], at: usize, end: usize, last: u32) -> FieldFound
     ensures { λ r. ⌜ r ≡ fieldAt (now (s .entry)) end at last ⌝ }
 {
-    match varint::decode_varint_capped(s, at, end) {
-        VarintFound::Refused(r) => FieldFound::Refused(r),
-        VarintFound::Got(key, q) => {
-            let tag = (last as u64) + key / 4;
-            if wire::LAST_TAG < tag {
-                return FieldFound::Refused(Refusal::TagOverflowed);
-            }
-            match value_of_kind(s, q, end, key % 4) {
+    match decode_key(s, at, end, last) {
+        KeyFound::Refused(r) => FieldFound::Refused(r),
+        KeyFound::Got(key, q) => {
+            let wire = key.wire;
+            match value_of_kind(s, q, end, wire_number(wire)) {
                 ValueFound::Refused(r) => FieldFound::Refused(r),
                 ValueFound::Got(v, next) => FieldFound::Got(
                     Field {
-                        tag: tag as u32,
+                        tag: key.tag,
                         value: v,
                     },
                     next,
