@@ -1,5 +1,5 @@
-// One field under a cap: its key, then its value; and keys written. From src/encoding/mod.rs (`Capped`, `decode_key`, `TagWriter`,
-// `TagRevWriter`, `RuntimeTagMeasurer`) and opaque.rs.
+// One field under a cap: its key, its value, the two together, fields passed over; and keys written. From src/encoding/mod.rs
+// (`Capped`, `decode_key`, `skip_field`, `TagWriter`, `TagRevWriter`, `RuntimeTagMeasurer`) and opaque.rs.
 ghost use mathlib.Core.Path.{_≡_};
 ghost use mathlib.Core.List.{_∷_, []};
 ghost use Prim.Native.Nat.{_+_, _-_, _*_, _≤_, _<_, _%_, _^_};
@@ -9,12 +9,15 @@ ghost use Rattle.wire.specs.Numbers.{typeOf};
 ghost use Rattle.wire.specs.Varint.{encode};
 ghost use Rattle.wire.specs.Fixed.{number};
 ghost use Rattle.wire.specs.Reading.{wireOf, keyAt, valueAt, fieldAt};
+ghost use Rattle.wire.specs.Skipping.{inSlice, pastAt, skipAt};
 ghost use Rattle.field.specs.Inside.{inside};
+ghost use Rattle.field.specs.Repeated.{nextKey};
 ghost use Rattle.wire.specs.declared.WireType.the-variants.{Varint, LengthDelimited, ThirtyTwoBit, SixtyFourBit};
 use wire::Field;
 use wire::FieldFound;
 use wire::Key;
 use wire::KeyFound;
+use wire::Reached;
 use wire::Refusal;
 use wire::Value;
 use wire::ValueFound;
@@ -230,4 +233,74 @@ pub fn decode_field(s: &[u8], at: usize, end: usize, last: u32) -> FieldFound
             }
         }
     }
+}
+
+// ---- fields passed over
+
+// So many bytes from a place on are passed if the slice has them. The end is not asked.
+fn past_bytes(s: &[u8], at: usize, n: u64) -> Reached
+    ensures { λ r. ⌜ r ≡ inSlice (now (s .entry)) (at + n) ⌝ }
+{
+    if s.len() < at {
+        return Reached::Refused(Refusal::Truncated);
+    }
+    if ((s.len() - at) as u64) < n {
+        return Reached::Refused(Refusal::Truncated);
+    }
+    Reached::To(at + (n as usize))
+}
+
+// A value, by the number of its type. A length too is read as a varint under the end.
+fn past_value(s: &[u8], at: usize, end: usize, kind: u64) -> Reached
+    ensures { λ r. ⌜ r ≡ pastAt (now (s .entry)) end at (wireOf kind) ⌝ }
+{
+    if kind == 2 {
+        return past_bytes(s, at, 4);
+    }
+    if 2 < kind {
+        return past_bytes(s, at, 8);
+    }
+    match varint::decode_varint_capped(s, at, end) {
+        VarintFound::Refused(r) => Reached::Refused(r),
+        VarintFound::Got(n, q) => {
+            if kind == 0 {
+                return Reached::To(q);
+            }
+            past_bytes(s, q, n)
+        }
+    }
+}
+
+// The byte at a place if it stands before the end; else 4, which is no key of the same tag.
+fn next_key(s: &[u8], at: usize, end: usize) -> u64
+    ensures { λ r. ⌜ r ≡ nextKey (now (s .entry)) end at ⌝ }
+{
+    if end <= at {
+        return 4;
+    }
+    if s.len() <= at {
+        return 4;
+    }
+    s[at] as u64
+}
+
+// A value of a wire type, and every field of the same tag behind it: a key below 4 adds nothing to the tag, and is a wire type.
+pub fn skip_field(s: &[u8], at: usize, end: usize, wire: WireType) -> Reached
+    ensures { λ r. ⌜ r ≡ skipAt (now (s .entry)) end at wire ⌝ }
+{
+    let mut kind = wire_number(wire);
+    let mut p = at;
+    let reached = loop {
+        match past_value(s, p, end, kind) {
+            Reached::Refused(r) => return Reached::Refused(r),
+            Reached::To(q) => {
+                kind = next_key(s, q, end);
+                if 3 < kind {
+                    break q;
+                }
+                p = q + 1;
+            }
+        }
+    };
+    Reached::To(reached)
 }

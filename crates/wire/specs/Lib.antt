@@ -13,6 +13,7 @@ pub mod Skipping
 pub mod Types
 pub mod Places
 pub mod ReadingLaws
+pub mod SkippingLaws
 pub mod Theorem
 pub mod Formats
 pub mod Table
