@@ -1,4 +1,4 @@
-// One field under a cap: its key, its value, the two together, fields passed over; and keys written. From src/encoding/mod.rs
+// One field under a cap: its key, its value, the two together, one step, fields passed over; and keys written. From src/encoding/mod.rs
 // (`Capped`, `decode_key`, `skip_field`, `TagWriter`, `TagRevWriter`, `RuntimeTagMeasurer`) and opaque.rs.
 ghost use mathlib.Core.Path.{_≡_};
 ghost use mathlib.Core.List.{_∷_, []};
@@ -8,7 +8,7 @@ ghost use Rattle.place.specs.Place.{Placed, putAt, prependAt};
 ghost use Rattle.wire.specs.Numbers.{typeOf};
 ghost use Rattle.wire.specs.Varint.{encode};
 ghost use Rattle.wire.specs.Fixed.{number};
-ghost use Rattle.wire.specs.Reading.{wireOf, keyAt, valueAt, fieldAt};
+ghost use Rattle.wire.specs.Reading.{wireOf, keyAt, valueAt, fieldAt, stepAt};
 ghost use Rattle.wire.specs.Skipping.{inSlice, pastAt, skipAt};
 ghost use Rattle.field.specs.Inside.{inside};
 ghost use Rattle.field.specs.Repeated.{nextKey};
@@ -19,6 +19,7 @@ use wire::Key;
 use wire::KeyFound;
 use wire::Reached;
 use wire::Refusal;
+use wire::Stepped;
 use wire::Value;
 use wire::ValueFound;
 use wire::VarintFound;
@@ -213,7 +214,7 @@ pub fn decode_value(s: &[u8], at: usize, end: usize, wire: WireType) -> ValueFou
 }
 
 // A key, then its value. The place after it may be past the end. This is for the message reader's loop, and folded into it as long as
-// it is called in one place; another caller takes decode_key and decode_value.
+// it is called in one place; other callers take step_from.
 pub fn decode_field(s: &[u8], at: usize, end: usize, last: u32) -> FieldFound
     ensures { λ r. ⌜ r ≡ fieldAt (now (s .entry)) end at last ⌝ }
 {
@@ -224,6 +225,34 @@ pub fn decode_field(s: &[u8], at: usize, end: usize, last: u32) -> FieldFound
             match value_of_kind(s, q, end, wire_number(wire)) {
                 ValueFound::Refused(r) => FieldFound::Refused(r),
                 ValueFound::Got(v, next) => FieldFound::Got(
+                    Field {
+                        tag: key.tag,
+                        value: v,
+                    },
+                    next,
+                ),
+            }
+        }
+    }
+}
+
+// One step of a message: before the end a field, at the end no more, past it Truncated.
+pub fn step_from(s: &[u8], at: usize, end: usize, last: u32) -> Stepped
+    ensures { λ r. ⌜ r ≡ stepAt (now (s .entry)) end at last ⌝ }
+{
+    if at == end {
+        return Stepped::End;
+    }
+    if end < at {
+        return Stepped::Refused(Refusal::Truncated);
+    }
+    match decode_key(s, at, end, last) {
+        KeyFound::Refused(r) => Stepped::Refused(r),
+        KeyFound::Got(key, q) => {
+            let wire = key.wire;
+            match decode_value(s, q, end, wire) {
+                ValueFound::Refused(r) => Stepped::Refused(r),
+                ValueFound::Got(v, next) => Stepped::Field(
                     Field {
                         tag: key.tag,
                         value: v,

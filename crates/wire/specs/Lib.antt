@@ -14,6 +14,7 @@ pub mod Types
 pub mod Places
 pub mod ReadingLaws
 pub mod SkippingLaws
+pub mod StepLaws
 pub mod Theorem
 pub mod Formats
 pub mod Table

@@ -275,16 +275,6 @@ tagged-got : (t : ℕ) (r : ValueFound) (f : Field) (q : ℕ) → tagged t r ≡
 tagged-got t (valueFound.Got v i) f q e = let a : i ≡ q = cc in (v, ap (valueFound.Got v) a, cc)
 tagged-got t (valueFound.Refused r) f q e = let z : _≡_ {A = ℕ} 0 1 = cc in absurd (omega arith)
 
--- a field by its key: a tag that overflows, and one that does not
-module _ (s : List ℕ) (e p last key q : ℕ) (h : cappedAt s e p ≡ varintFound.Got key q) where
-  pub field-large : 2 ^ 32 ≤ last + key / 4 → fieldAt s e p last ≡ fieldFound.Refused TagOverflowed
-  unfolding fieldAt
-  field-large g = rw (h, le-ltb (last + key / 4) (2 ^ 32) g)
-
-  pub field-small : last + key / 4 < 2 ^ 32 → fieldAt s e p last ≡ tagged (last + key / 4) (valueAt s e q (wireOf (key % 4)))
-  unfolding fieldAt
-  field-small g = rw (h, lt-ltb (last + key / 4) (2 ^ 32) g)
-
 -- the key and the value of a field that was read
 pub record Found (s : List ℕ) (e p last : ℕ) (f : Field) (q : ℕ) : Type 0 where
   pub wire : WireType

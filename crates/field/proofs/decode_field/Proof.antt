@@ -1,6 +1,7 @@
 -- A key, then the value of its type.
 use mathlib.Core.Path.{_≡_, _∙_, ap, sym}
-use Rattle.wire.specs.Reading.{fieldOf, tagged, fieldAt, valueAt, wireOf}
+use Rattle.wire.specs.Reading.{tagged, fieldAt, valueAt, wireOf}
+use Rattle.wire.specs.StepLaws.{field-keyed, field-keyless}
 use Rattle.wire.specs.Types.{wire-type}
 use borrow.Author.Needs.{needs}
 use Rattle.field.proofs.decode_field.Statement.{statement}
@@ -30,20 +31,16 @@ enum-known-v c = search needs
 -- the field is its value under its tag
 valued : (c : tie.After-value-of-kind) → let a = c .before .before .before .before .before .before .before .args in
     fieldAt (a .s .now) (a .end) (a .at) (a .last) ≡ tagged (c .before .before .before .key .given .0 .0 .tag) (c .value-of-kind .result)
-unfolding fieldAt
 valued c =
     let k = c .before .before .before in
     let a = k .before .before .before .before .args in
     let w = k .key .given .0 .0 .wire in
     let kind : wireOf (c .before .wire-number .result) ≡ w = ap wireOf (c .before .wire-number .ensures) ∙ wire-type w in
-    ap (fieldOf (a .s .now) (a .end)) (sym (k .before .before .decode-key .ensures) ∙ k .key .given .1)
+    field-keyed _ _ _ _ (sym (k .before .before .decode-key .ensures) ∙ k .key .given .1)
     ∙ sym (ap (tagged (k .key .given .0 .0 .tag)) (c .value-of-kind .ensures ∙ ap (valueAt (a .s .now) (a .end) (k .key .given .0 .1 .0)) kind))
 
 returns : tie.Need-returns
-unfolding fieldAt
-returns c =
-    let a = c .before .before .before .before .before .args in
-    sym (ap (fieldOf (a .s .now) (a .end)) (sym (c .before .before .before .decode-key .ensures) ∙ c .before .r .given .1))
+returns c = sym (field-keyless _ _ _ _ (sym (c .before .before .before .decode-key .ensures) ∙ c .before .r .given .1))
 
 returns-2 : tie.Need-returns-2
 returns-2 c =
