@@ -9,7 +9,8 @@ ghost use Rattle.wire.specs.Numbers.{typeOf};
 ghost use Rattle.wire.specs.Varint.{encode};
 ghost use Rattle.wire.specs.Fixed.{number};
 ghost use Rattle.wire.specs.Reading.{wireOf, keyAt, valueAt, fieldAt, stepAt};
-ghost use Rattle.wire.specs.Skipping.{inSlice, pastAt, skipAt};
+ghost use Rattle.wire.specs.Skipping.{pastAt, skipAt};
+ghost use Rattle.wire.specs.SkippingLaws.{upTo};
 ghost use Rattle.field.specs.Inside.{inside};
 ghost use Rattle.field.specs.Repeated.{nextKey};
 ghost use Rattle.wire.specs.declared.WireType.the-variants.{Varint, LengthDelimited, ThirtyTwoBit, SixtyFourBit};
@@ -266,14 +267,14 @@ pub fn step_from(s: &[u8], at: usize, end: usize, last: u32) -> Stepped
 
 // ---- fields passed over
 
-// So many bytes from a place on are passed if the slice has them. The end is not asked.
-fn past_bytes(s: &[u8], at: usize, n: u64) -> Reached
-    ensures { λ r. ⌜ r ≡ inSlice (now (s .entry)) (at + n) ⌝ }
+// So many bytes from a place on are passed if a slice of len bytes has them. The end is not asked.
+fn past_bytes(len: usize, at: usize, n: u64) -> Reached
+    ensures { λ r. ⌜ r ≡ upTo len (at + n) ⌝ }
 {
-    if s.len() < at {
+    if len < at {
         return Reached::Refused(Refusal::Truncated);
     }
-    if ((s.len() - at) as u64) < n {
+    if ((len - at) as u64) < n {
         return Reached::Refused(Refusal::Truncated);
     }
     Reached::To(at + (n as usize))
@@ -284,10 +285,10 @@ fn past_value(s: &[u8], at: usize, end: usize, kind: u64) -> Reached
     ensures { λ r. ⌜ r ≡ pastAt (now (s .entry)) end at (wireOf kind) ⌝ }
 {
     if kind == 2 {
-        return past_bytes(s, at, 4);
+        return past_bytes(s.len(), at, 4);
     }
     if 2 < kind {
-        return past_bytes(s, at, 8);
+        return past_bytes(s.len(), at, 8);
     }
     match varint::decode_varint_capped(s, at, end) {
         VarintFound::Refused(r) => Reached::Refused(r),
@@ -295,7 +296,7 @@ fn past_value(s: &[u8], at: usize, end: usize, kind: u64) -> Reached
             if kind == 0 {
                 return Reached::To(q);
             }
-            past_bytes(s, q, n)
+            past_bytes(s.len(), q, n)
         }
     }
 }

@@ -22,11 +22,15 @@ use Rattle.wire.specs.declared.Reached.the-variants.{To, Refused}
 
 -- ---- one value
 
-pub slice-has : (s : List ℕ) (q : ℕ) → q ≤ length s → inSlice s q ≡ To q
-slice-has s q h = rw (le-leb q (length s) h)
+-- bytes up to place q, of a slice of n: inSlice by the slice's length
+abbrev pub upTo : ℕ → ℕ → Reached
+upTo n q = choose (leb q n) (To q) (Refused Truncated)
 
-pub slice-lacks : (s : List ℕ) (q : ℕ) → length s < q → inSlice s q ≡ Refused Truncated
-slice-lacks s q h = rw (lt-leb q (length s) h)
+pub slice-has : (n q : ℕ) → q ≤ n → upTo n q ≡ To q
+slice-has n q h = rw (le-leb q n h)
+
+pub slice-lacks : (n q : ℕ) → n < q → upTo n q ≡ Refused Truncated
+slice-lacks n q h = rw (lt-leb q n h)
 
 slice-to : (s : List ℕ) (q r : ℕ) → inSlice s q ≡ To r → (r ≡ q) × (q ≤ length s)
 slice-to s q r h = go (leb q (length s)) refl
