@@ -2,4 +2,5 @@ pub mod Gate
 pub mod Told
 pub mod Stores
 pub mod Varints
+pub mod Fields
 pub mod Messages

@@ -7,15 +7,22 @@ ghost use Rattle.wire.specs.Numbers.{typeOf};
 ghost use Rattle.wire.specs.Reading.{wireOf};
 ghost use Rattle.wire.specs.Signed.{toUnsigned, toSigned};
 ghost use Rattle.message.specs.Into.{Outcome};
+ghost use Rattle.capgauze.specs.Fields.{decodeKey, keyAtFront, keyAtEnd, keyLen, decodeValue, skipField, stepEntry};
 ghost use Rattle.capgauze.specs.Gate.{gated};
 ghost use Rattle.capgauze.specs.Messages.{Part, partOf, readEntry, payloadPart, readPayload, pickEntry};
 ghost use Rattle.capgauze.specs.Stores.{Stored, atFront, atEnd};
 ghost use Rattle.capgauze.specs.Varints.{decodeVarint, decodeVarintCapped};
 use message::Sought;
 use wire::Field;
+use wire::Key;
+use wire::KeyFound;
+use wire::Reached;
 use wire::Read;
 use wire::Record;
 use wire::Refusal;
+use wire::Stepped;
+use wire::Value;
+use wire::ValueFound;
 use wire::VarintFound;
 use wire::WireType;
 
@@ -35,6 +42,37 @@ pub enum Put {
 pub enum VarintRead {
     Got(u64, usize),
     Refused(Refusal, usize),
+}
+
+// A key and the place after it, or a refusal, the place and the last tag given.
+pub enum KeyRead {
+    Got(Key, usize),
+    Refused(Refusal, usize, u32),
+}
+
+// A value and the place after it, or a refusal and the place given.
+pub enum ValueRead {
+    Got(Value, usize),
+    Refused(Refusal, usize),
+}
+
+// The place reached, or a refusal and the place given.
+pub enum Skipped {
+    To(usize),
+    Refused(Refusal, usize),
+}
+
+// A field and the place after it, or the end, or a refusal, the place and the last tag given.
+pub enum Step {
+    Field(Field, usize),
+    End,
+    Refused(Refusal, usize, u32),
+}
+
+// A length, or why there is none.
+pub enum Measured {
+    Length(usize),
+    Refused(Refusal),
 }
 
 // The first field of a tag, or that there is none, or why the message has none.
@@ -146,6 +184,100 @@ pub fn wire_number(wire: WireType) -> u64
     ensures { λ r. ⌜ r ≡ typeOf wire ⌝ }
 {
     field::wire_number(wire)
+}
+
+// ---- keys, values, one field
+
+// The key at a place, under an end and after a last tag. The place after it may be past the end.
+pub fn decode_key(s: &[u8], at: usize, end: usize, last: u32) -> KeyRead
+    ensures { λ r. ⌜ r ≡ decodeKey (now (s .entry)) at end last ⌝ }
+{
+    if let Gated::Shut(r) = gate(s.len(), at, end) {
+        return KeyRead::Refused(r, at, last);
+    }
+    match field::decode_key(s, at, end, last) {
+        KeyFound::Got(k, next) => KeyRead::Got(k, next),
+        KeyFound::Refused(r) => KeyRead::Refused(r, at, last),
+    }
+}
+
+// A key's bytes at the buffer's front: OutOfOrder for a tag below the last one, then NoRoom.
+pub fn encode_key(last: u32, tag: u32, wire: WireType, buf: &mut [u8]) -> Put
+    ensures { λ r. ⌜ record { answer = r; buf = now (buf .exit) } ≡ keyAtFront (now (buf .entry)) last tag wire ⌝ }
+{
+    if tag < last {
+        return Put::Refused(Refusal::OutOfOrder);
+    }
+    let n = field::put_key(buf, 0, last, tag, wire);
+    if n == 0 {
+        return Put::Refused(Refusal::NoRoom);
+    }
+    Put::Done(n)
+}
+
+// A key's bytes at the buffer's end: OutOfOrder for a tag below the last one, then NoRoom.
+pub fn prepend_key(last: u32, tag: u32, wire: WireType, buf: &mut [u8]) -> Put
+    ensures { λ r. ⌜ record { answer = r; buf = now (buf .exit) } ≡ keyAtEnd (now (buf .entry)) last tag wire ⌝ }
+{
+    if tag < last {
+        return Put::Refused(Refusal::OutOfOrder);
+    }
+    let end = buf.len();
+    let start = field::prepend_key(buf, end, last, tag, wire);
+    if start == end {
+        return Put::Refused(Refusal::NoRoom);
+    }
+    Put::Done(end - start)
+}
+
+// How many bytes a key takes, whatever its wire type; OutOfOrder for a tag below the last one.
+pub fn key_len(last: u32, tag: u32) -> Measured
+    ensures { λ r. ⌜ r ≡ keyLen last tag ⌝ }
+{
+    if tag < last {
+        return Measured::Refused(Refusal::OutOfOrder);
+    }
+    Measured::Length(field::key_len(last, tag))
+}
+
+// The value of a wire type at a place, under an end. Only a varint's place after it may be past the end.
+pub fn decode_value(s: &[u8], at: usize, end: usize, wire: WireType) -> ValueRead
+    ensures { λ r. ⌜ r ≡ decodeValue (now (s .entry)) at end wire ⌝ }
+{
+    if let Gated::Shut(r) = gate(s.len(), at, end) {
+        return ValueRead::Refused(r, at);
+    }
+    match field::decode_value(s, at, end, wire) {
+        ValueFound::Got(v, next) => ValueRead::Got(v, next),
+        ValueFound::Refused(r) => ValueRead::Refused(r, at),
+    }
+}
+
+// The place behind a value of a wire type and all fields of the same tag that follow it. It may be past the end.
+pub fn skip_field(s: &[u8], at: usize, end: usize, wire: WireType) -> Skipped
+    ensures { λ r. ⌜ r ≡ skipField (now (s .entry)) at end wire ⌝ }
+{
+    if let Gated::Shut(r) = gate(s.len(), at, end) {
+        return Skipped::Refused(r, at);
+    }
+    match field::skip_field(s, at, end, wire) {
+        Reached::To(q) => Skipped::To(q),
+        Reached::Refused(r) => Skipped::Refused(r, at),
+    }
+}
+
+// One step of a message: a field and the place after it, which may be past the end; or the end.
+pub fn step_at(s: &[u8], at: usize, end: usize, last: u32) -> Step
+    ensures { λ r. ⌜ r ≡ stepEntry (now (s .entry)) at end last ⌝ }
+{
+    if let Gated::Shut(r) = gate(s.len(), at, end) {
+        return Step::Refused(r, at, last);
+    }
+    match field::step_from(s, at, end, last) {
+        Stepped::Field(f, next) => Step::Field(f, next),
+        Stepped::End => Step::End,
+        Stepped::Refused(r) => Step::Refused(r, at, last),
+    }
 }
 
 // ---- messages
