@@ -19,6 +19,20 @@ use Rattle.capgauze.proofs.i64_to_unsigned.Kinds as i64-to-unsigned
 use Rattle.capgauze.proofs.i64_to_unsigned.Reads as i64-to-unsigned-reads
 use Rattle.capgauze.proofs.u64_to_signed.Kinds as u64-to-signed
 use Rattle.capgauze.proofs.u64_to_signed.Reads as u64-to-signed-reads
+use Rattle.capgauze.proofs.decode_key.Kinds as decode-key
+use Rattle.capgauze.proofs.decode_key.Reads as decode-key-reads
+use Rattle.capgauze.proofs.encode_key.Kinds as encode-key
+use Rattle.capgauze.proofs.encode_key.Reads as encode-key-reads
+use Rattle.capgauze.proofs.prepend_key.Kinds as prepend-key
+use Rattle.capgauze.proofs.prepend_key.Reads as prepend-key-reads
+use Rattle.capgauze.proofs.key_len.Kinds as key-len
+use Rattle.capgauze.proofs.key_len.Reads as key-len-reads
+use Rattle.capgauze.proofs.decode_value.Kinds as decode-value
+use Rattle.capgauze.proofs.decode_value.Reads as decode-value-reads
+use Rattle.capgauze.proofs.skip_field.Kinds as skip-field
+use Rattle.capgauze.proofs.skip_field.Reads as skip-field-reads
+use Rattle.capgauze.proofs.step_at.Kinds as step-at
+use Rattle.capgauze.proofs.step_at.Reads as step-at-reads
 use Rattle.capgauze.proofs.wire_type_of.Kinds as wire-type-of
 use Rattle.capgauze.proofs.wire_type_of.Reads as wire-type-of-reads
 use Rattle.capgauze.proofs.wire_number.Kinds as wire-number
@@ -71,3 +85,24 @@ read-payload-one κs a x y s t p q = p ∙ sym q
 
 pub pick-one : One 1 pick.ps pick.r pick-reads.Post (λ κs r s. r)
 pick-one κs a x y s t p q = p ∙ sym q
+
+pub decode-key-one : One 1 decode-key.ps decode-key.r decode-key-reads.Post (λ κs r s. r)
+decode-key-one κs a x y s t p q = p ∙ sym q
+
+pub encode-key-one : One 1 encode-key.ps encode-key.r encode-key-reads.Post {S = Stored} (λ κs r s. record { answer = r; buf = now (s .1 .1 .1 .0) })
+encode-key-one κs a x y s t p q = p ∙ sym q
+
+pub prepend-key-one : One 1 prepend-key.ps prepend-key.r prepend-key-reads.Post {S = Stored} (λ κs r s. record { answer = r; buf = now (s .1 .1 .1 .0) })
+prepend-key-one κs a x y s t p q = p ∙ sym q
+
+pub key-len-one : One 0 key-len.ps key-len.r key-len-reads.Post (λ κs r s. r)
+key-len-one κs a x y s t p q = p ∙ sym q
+
+pub decode-value-one : One 1 decode-value.ps decode-value.r decode-value-reads.Post (λ κs r s. r)
+decode-value-one κs a x y s t p q = p ∙ sym q
+
+pub skip-field-one : One 1 skip-field.ps skip-field.r skip-field-reads.Post (λ κs r s. r)
+skip-field-one κs a x y s t p q = p ∙ sym q
+
+pub step-at-one : One 1 step-at.ps step-at.r step-at-reads.Post (λ κs r s. r)
+step-at-one κs a x y s t p q = p ∙ sym q

@@ -2,17 +2,20 @@
 use Prim.Native.Nat.{ℕ, _+_, _-_, _*_, _≤_, _<_}
 use mathlib.Core.Path.{_≡_, refl, ap, _∙_, sym}
 use mathlib.Core.List.{List}
+use native.Mathlib.Omega.{arith}
 use borrow.Author.Tests.{le-leb, lt-leb}
 use lib.Dec.{leb}
 use lib.ListN.{length}
 use Rattle.wire.specs.Choose.{choose}
 use Rattle.wire.specs.Numbers.{typeOf}
 use Rattle.wire.specs.Varint.{encode}
+use Rattle.wire.specs.VarintLength.{length-four}
 use Rattle.wire.specs.Reading.{keyAt, valueAt, stepAt}
 use Rattle.wire.specs.Skipping.{skipAt}
 use Rattle.wire.specs.declared.Refusal.{Refusal}
 use Rattle.wire.specs.declared.Refusal.the-variants.{OutOfOrder}
 use Rattle.wire.specs.declared.WireType.{WireType}
+use Rattle.wire.specs.declared.WireType.the-variants as wireType
 use Rattle.wire.specs.declared.KeyFound.{KeyFound}
 use Rattle.wire.specs.declared.KeyFound.the-variants as keyFound
 use Rattle.wire.specs.declared.ValueFound.{ValueFound}
@@ -37,34 +40,34 @@ use Rattle.capgauze.specs.declared.Measured.the-variants as measured
 
 -- ---- read
 
-abbrev pub keyRead-of : ℕ → ℕ → KeyFound → KeyRead
-keyRead-of at last (keyFound.Got k q) = keyRead.Got k q
-keyRead-of at last (keyFound.Refused r) = keyRead.Refused r at last
+abbrev pub keyAnswer : ℕ → ℕ → KeyFound → KeyRead
+keyAnswer at last (keyFound.Got k q) = keyRead.Got k q
+keyAnswer at last (keyFound.Refused r) = keyRead.Refused r at last
 
 unfoldable pub decodeKey : List ℕ → ℕ → ℕ → ℕ → KeyRead
-decodeKey s at e last = through (gated (length s) at e) (λ r. keyRead.Refused r at last) (keyRead-of at last (keyAt s e at last))
+decodeKey s at e last = through (gated (length s) at e) (λ r. keyRead.Refused r at last) (keyAnswer at last (keyAt s e at last))
 
-abbrev pub valueRead-of : ℕ → ValueFound → ValueRead
-valueRead-of at (valueFound.Got v q) = valueRead.Got v q
-valueRead-of at (valueFound.Refused r) = valueRead.Refused r at
+abbrev pub valueAnswer : ℕ → ValueFound → ValueRead
+valueAnswer at (valueFound.Got v q) = valueRead.Got v q
+valueAnswer at (valueFound.Refused r) = valueRead.Refused r at
 
 unfoldable pub decodeValue : List ℕ → ℕ → ℕ → WireType → ValueRead
-decodeValue s at e w = through (gated (length s) at e) (λ r. valueRead.Refused r at) (valueRead-of at (valueAt s e at w))
+decodeValue s at e w = through (gated (length s) at e) (λ r. valueRead.Refused r at) (valueAnswer at (valueAt s e at w))
 
-abbrev pub skipped-of : ℕ → Reached → Skipped
-skipped-of at (reached.To q) = skipped.To q
-skipped-of at (reached.Refused r) = skipped.Refused r at
+abbrev pub skipAnswer : ℕ → Reached → Skipped
+skipAnswer at (reached.To q) = skipped.To q
+skipAnswer at (reached.Refused r) = skipped.Refused r at
 
 unfoldable pub skipField : List ℕ → ℕ → ℕ → WireType → Skipped
-skipField s at e w = through (gated (length s) at e) (λ r. skipped.Refused r at) (skipped-of at (skipAt s e at w))
+skipField s at e w = through (gated (length s) at e) (λ r. skipped.Refused r at) (skipAnswer at (skipAt s e at w))
 
-abbrev pub step-of : ℕ → ℕ → Stepped → Step
-step-of at last (stepped.Field f q) = step.Field f q
-step-of at last stepped.End = step.End
-step-of at last (stepped.Refused r) = step.Refused r at last
+abbrev pub stepAnswer : ℕ → ℕ → Stepped → Step
+stepAnswer at last (stepped.Field f q) = step.Field f q
+stepAnswer at last stepped.End = step.End
+stepAnswer at last (stepped.Refused r) = step.Refused r at last
 
 unfoldable pub stepEntry : List ℕ → ℕ → ℕ → ℕ → Step
-stepEntry s at e last = through (gated (length s) at e) (λ r. step.Refused r at last) (step-of at last (stepAt s e at last))
+stepEntry s at e last = through (gated (length s) at e) (λ r. step.Refused r at last) (stepAnswer at last (stepAt s e at last))
 
 -- ---- written: a tag below the last one is OutOfOrder, and the buffer stays
 
@@ -106,3 +109,13 @@ len-falls last tag h = rw (lt-leb last tag h)
 pub len-order : (last tag : ℕ) → last ≤ tag → keyLen last tag ≡ measured.Length (length (encode (4 * (tag - last))))
 unfolding keyLen
 len-order last tag h = rw (le-leb last tag h)
+
+-- THE TYPE NEVER CHANGES A KEY'S LENGTH
+pub key-length : (last tag : ℕ) (w : WireType) → length (encode (4 * (tag - last))) ≡ length (keyBytes last tag w)
+key-length last tag w = sym (length-four (tag - last) (typeOf w) (type-below w))
+  where
+    type-below : (w : WireType) → typeOf w < 4
+    type-below wireType.Varint = omega arith
+    type-below wireType.LengthDelimited = omega arith
+    type-below wireType.ThirtyTwoBit = omega arith
+    type-below wireType.SixtyFourBit = omega arith

@@ -1,6 +1,6 @@
 -- The paper's number and values for each case of each answer.
 use Prim.Native.Nat.{ℕ}
-use Rattle.wire.specs.Numbers.{numberOf}
+use Rattle.wire.specs.Numbers.{numberOf, typeOf}
 use Rattle.wire.specs.Table.{kindWord, valueWord, lengthWord}
 use Rattle.wire.specs.declared.Read.{Read}
 use Rattle.wire.specs.declared.Read.the-variants as read
@@ -8,6 +8,16 @@ use Rattle.capgauze.specs.declared.Put.{Put}
 use Rattle.capgauze.specs.declared.Put.the-variants as put
 use Rattle.capgauze.specs.declared.VarintRead.{VarintRead}
 use Rattle.capgauze.specs.declared.VarintRead.the-variants as varintRead
+use Rattle.capgauze.specs.declared.KeyRead.{KeyRead}
+use Rattle.capgauze.specs.declared.KeyRead.the-variants as keyRead
+use Rattle.capgauze.specs.declared.ValueRead.{ValueRead}
+use Rattle.capgauze.specs.declared.ValueRead.the-variants as valueRead
+use Rattle.capgauze.specs.declared.Skipped.{Skipped}
+use Rattle.capgauze.specs.declared.Skipped.the-variants as skipped
+use Rattle.capgauze.specs.declared.Step.{Step}
+use Rattle.capgauze.specs.declared.Step.the-variants as step
+use Rattle.capgauze.specs.declared.Measured.{Measured}
+use Rattle.capgauze.specs.declared.Measured.the-variants as measured
 use Rattle.capgauze.specs.declared.Picked.{Picked}
 use Rattle.capgauze.specs.declared.Picked.the-variants as picked
 
@@ -28,6 +38,57 @@ pub record Varint : Type 0 where
 abbrev pub varintTold : VarintRead → Varint
 varintTold (varintRead.Got v q) = record { number = 0; value = v; place = q }
 varintTold (varintRead.Refused r p) = record { number = numberOf r; value = 0; place = p }
+
+abbrev pub measuredTold : Measured → Number
+measuredTold (measured.Length n) = record { number = 0; value = n }
+measuredTold (measured.Refused r) = record { number = numberOf r; value = 0 }
+
+-- a key: refused, the last tag given
+pub record Key : Type 0 where
+  pub number : ℕ
+  pub tag : ℕ
+  pub type : ℕ
+  pub place : ℕ
+
+abbrev pub keyTold : KeyRead → Key
+keyTold (keyRead.Got k q) = record { number = 0; tag = k .tag; type = typeOf (k .wire); place = q }
+keyTold (keyRead.Refused r p last) = record { number = numberOf r; tag = last; type = 0; place = p }
+
+-- a value's two words are a record's
+pub record Value : Type 0 where
+  pub number : ℕ
+  pub value : ℕ
+  pub length : ℕ
+  pub place : ℕ
+
+abbrev pub valueTold : ValueRead → Value
+valueTold (valueRead.Got v q) = record { number = 0; value = valueWord v; length = lengthWord v; place = q }
+valueTold (valueRead.Refused r p) = record { number = numberOf r; value = 0; length = 0; place = p }
+
+-- a place reached
+pub record Place : Type 0 where
+  pub number : ℕ
+  pub place : ℕ
+
+abbrev pub skippedTold : Skipped → Place
+skippedTold (skipped.To q) = record { number = 0; place = q }
+skippedTold (skipped.Refused r p) = record { number = numberOf r; place = p }
+
+-- a step from a place after a last tag: at the end both are as they were given
+pub record Field : Type 0 where
+  pub number : ℕ
+  pub found : ℕ
+  pub tag : ℕ
+  pub type : ℕ
+  pub value : ℕ
+  pub length : ℕ
+  pub place : ℕ
+
+abbrev pub stepTold : ℕ → ℕ → Step → Field
+stepTold at last (step.Field f q) =
+    record { number = 0; found = 1; tag = f .tag; type = kindWord (f .value); value = valueWord (f .value); length = lengthWord (f .value); place = q }
+stepTold at last step.End = record { number = 0; found = 0; tag = last; type = 0; value = 0; length = 0; place = at }
+stepTold at last (step.Refused r p t) = record { number = numberOf r; found = 0; tag = t; type = 0; value = 0; length = 0; place = p }
 
 -- a message: the place and the count
 pub record Message : Type 0 where

@@ -1,7 +1,7 @@
 -- The gate, then the core; a refusal answers what was given.
 use mathlib.Core.Path.{_∙_, ap, sym}
 use Rattle.capgauze.specs.Gate.{through-shut, through-open}
-use Rattle.capgauze.specs.Fields.{skipped-of, skipField}
+use Rattle.capgauze.specs.Fields.{skipAnswer, skipField}
 use borrow.Author.Needs.{needs}
 use Rattle.capgauze.proofs.skip_field.Statement.{statement}
 use Rattle.capgauze.proofs.skip_field.Tie as tie
@@ -30,11 +30,11 @@ enum-known-r-2 c = search needs
 
 returns-2 : tie.Need-returns-2
 unfolding skipField
-returns-2 c = let d = c .before .before .before in sym (through-open _ _ (sym (d .before .before .before .gate .ensures) ∙ d .before .enum-told .given .1) ∙ ap (skipped-of _) (sym (d .skip-field .ensures) ∙ c .before .q .given .1))
+returns-2 c = let d = c .before .before .before in sym (through-open _ _ (sym (d .before .before .before .gate .ensures) ∙ d .before .enum-told .given .1) ∙ ap (skipAnswer _) (sym (d .skip-field .ensures) ∙ c .before .q .given .1))
 
 returns-3 : tie.Need-returns-3
 unfolding skipField
-returns-3 c = let d = c .before .before .before in sym (through-open _ _ (sym (d .before .before .before .gate .ensures) ∙ d .before .enum-told .given .1) ∙ ap (skipped-of _) (sym (d .skip-field .ensures) ∙ c .before .r2 .given .1))
+returns-3 c = let d = c .before .before .before in sym (through-open _ _ (sym (d .before .before .before .gate .ensures) ∙ d .before .enum-told .given .1) ∙ ap (skipAnswer _) (sym (d .skip-field .ensures) ∙ c .before .r2 .given .1))
 
 pub skip-field-spec : {M : Type 1} → statement M
 skip-field-spec = tie.close (tie.spec gate-requires enum-known-r returns enum-told skip-field-requires enum-known-q enum-known-r-2 returns-2 returns-3)
