@@ -7,18 +7,25 @@ ghost use Rattle.wire.specs.Table.{kindWord, valueWord, lengthWord};
 ghost use Rattle.wire.specs.Varint.{encode};
 ghost use Rattle.wire.specs.Signed.{toUnsigned, toSigned};
 ghost use Rattle.message.specs.Payload.{spanOf};
-ghost use Rattle.capgauze.specs.Told.{putTold, varintTold, readTold, pickedTold};
+ghost use Rattle.capgauze.specs.Told.{putTold, varintTold, readTold, pickedTold, measuredTold, keyTold, valueTold, skippedTold, stepTold};
+ghost use Rattle.capgauze.specs.Fields.{decodeKey, keyAtFront, keyAtEnd, keyLen, decodeValue, skipField, stepEntry};
 ghost use Rattle.capgauze.specs.Varints.{decodeVarint, decodeVarintCapped};
 ghost use Rattle.capgauze.specs.Stores.{atFront, atEnd};
 ghost use Rattle.capgauze.specs.Messages.{readEntry, readPayload, pickEntry};
-ghost use Rattle.capgauze_c.specs.Words.{Lent, asNumber, asVarint, asRead, asPicked, asPart, storedTold, outcomeTold};
+ghost use Rattle.capgauze_c.specs.Words.{Lent, asNumber, asVarint, asRead, asPicked, asPart, asKey, asValue, asPlace, asStep, typedOf, keyStored, valueTyped, placeTyped, storedTold, outcomeTold};
+use capgauze::KeyRead;
+use capgauze::Measured;
 use capgauze::Picked;
 use capgauze::Put;
+use capgauze::Skipped;
+use capgauze::Step;
+use capgauze::ValueRead;
 use capgauze::VarintRead;
 use wire::Read;
 use wire::Record;
 use wire::Refusal;
 use wire::Value;
+use wire::WireType;
 
 // A length or a count.
 #[repr(C)]
@@ -56,6 +63,45 @@ pub struct Part {
     pub length: u64,
 }
 
+#[repr(C)]
+pub struct KeyWords {
+    pub number: u64,
+    pub tag: u64,
+    pub kind: u64,
+    pub place: u64,
+}
+
+#[repr(C)]
+pub struct ValueWords {
+    pub number: u64,
+    pub value: u64,
+    pub length: u64,
+    pub place: u64,
+}
+
+#[repr(C)]
+pub struct PlaceWords {
+    pub number: u64,
+    pub place: u64,
+}
+
+#[repr(C)]
+pub struct StepWords {
+    pub number: u64,
+    pub found: u64,
+    pub tag: u64,
+    pub kind: u64,
+    pub value: u64,
+    pub length: u64,
+    pub place: u64,
+}
+
+// A number as a wire type, if it is one.
+pub enum Typed {
+    Is(WireType),
+    Unknown,
+}
+
 // The paper's number of a refusal.
 fn number_of(r: Refusal) -> u64
     ensures { λ n. ⌜ n ≡ numberOf r ⌝ }
@@ -69,6 +115,18 @@ fn number_of(r: Refusal) -> u64
         Refusal::BadRecord => 6,
         Refusal::OutOfOrder => 7,
         Refusal::BadCap => 8,
+    }
+}
+
+fn wire_type(kind: u64) -> Typed
+    ensures { λ r. ⌜ r ≡ typedOf kind ⌝ }
+{
+    match kind {
+        0 => Typed::Is(WireType::Varint),
+        1 => Typed::Is(WireType::LengthDelimited),
+        2 => Typed::Is(WireType::ThirtyTwoBit),
+        3 => Typed::Is(WireType::SixtyFourBit),
+        _ => Typed::Unknown,
     }
 }
 
@@ -153,6 +211,117 @@ fn read_words(m: Read) -> ReadWords
             number: number_of(r),
             place: p as u64,
             count: n as u64,
+        },
+    }
+}
+
+fn key_words(k: KeyRead) -> KeyWords
+    ensures { λ r. ⌜ asKey r ≡ keyTold k ⌝ }
+{
+    match k {
+        KeyRead::Got(key, next) => {
+            let wire = key.wire;
+            KeyWords {
+                number: 0,
+                tag: key.tag as u64,
+                kind: capgauze::wire_number(wire),
+                place: next as u64,
+            }
+        }
+        KeyRead::Refused(r, at, last) => KeyWords {
+            number: number_of(r),
+            tag: last as u64,
+            kind: 0,
+            place: at as u64,
+        },
+    }
+}
+
+fn value_read_words(v: ValueRead) -> ValueWords
+    ensures { λ r. ⌜ asValue r ≡ valueTold v ⌝ }
+{
+    match v {
+        ValueRead::Got(x, next) => {
+            let w = value_words(x);
+            ValueWords {
+                number: 0,
+                value: w.value,
+                length: w.length,
+                place: next as u64,
+            }
+        }
+        ValueRead::Refused(r, at) => ValueWords {
+            number: number_of(r),
+            value: 0,
+            length: 0,
+            place: at as u64,
+        },
+    }
+}
+
+fn skipped_words(k: Skipped) -> PlaceWords
+    ensures { λ r. ⌜ asPlace r ≡ skippedTold k ⌝ }
+{
+    match k {
+        Skipped::To(q) => PlaceWords {
+            number: 0,
+            place: q as u64,
+        },
+        Skipped::Refused(r, at) => PlaceWords {
+            number: number_of(r),
+            place: at as u64,
+        },
+    }
+}
+
+fn step_words(at: usize, last: u32, k: Step) -> StepWords
+    ensures { λ r. ⌜ asStep r ≡ stepTold at last k ⌝ }
+{
+    match k {
+        Step::Field(f, next) => {
+            let v = f.value;
+            let w = value_words(v);
+            StepWords {
+                number: 0,
+                found: 1,
+                tag: f.tag as u64,
+                kind: w.kind,
+                value: w.value,
+                length: w.length,
+                place: next as u64,
+            }
+        }
+        Step::End => no_field(0, at, last),
+        Step::Refused(r, p, t) => no_field(number_of(r), p, t),
+    }
+}
+
+// The end, or a refusal: no field, a place and a last tag.
+fn no_field(number: u64, place: usize, tag: u32) -> StepWords
+    ensures { λ r. ⌜ asStep r ≡ record { number = number; found = 0; tag = tag; type = 0; value = 0; length = 0; place = place } ⌝ }
+{
+    StepWords {
+        number: number,
+        found: 0,
+        tag: tag as u64,
+        kind: 0,
+        value: 0,
+        length: 0,
+        place: place as u64,
+    }
+}
+
+fn measured_words(m: Measured) -> Number
+    ensures { λ r. ⌜ asNumber r ≡ measuredTold m ⌝ }
+{
+    match m {
+        Measured::Length(n) => Number {
+            number: 0,
+            value: n as u64,
+        },
+        Measured::Refused(r) => Number {
+            number: number_of(r),
+            value: 0,
         },
     }
 }
@@ -246,6 +415,90 @@ pub extern "C" fn capgauze_prepend_varint(v: u64, buf: &mut [u8]) -> Number
     ensures { λ r. ⌜ record { told = asNumber r; lent = now (buf .exit) } ≡ storedTold (atEnd (now (buf .entry)) (encode v)) ⌝ }
 {
     put_words(capgauze::prepend_varint(v, buf))
+}
+
+// ---- keys, values, one field
+
+// The key at a place.
+#[no_mangle]
+pub extern "C" fn capgauze_decode_key(s: &[u8], at: usize, end: usize, last: u32) -> KeyWords
+    ensures { λ r. ⌜ asKey r ≡ keyTold (decodeKey (now (s .entry)) at end last) ⌝ }
+{
+    key_words(capgauze::decode_key(s, at, end, last))
+}
+
+// A key's bytes at the buffer's front.
+#[no_mangle]
+pub extern "C" fn capgauze_encode_key(last: u32, tag: u32, kind: u64, buf: &mut [u8]) -> Number
+    ensures { λ r. ⌜ record { told = asNumber r; lent = now (buf .exit) } ≡ keyStored (now (buf .entry)) (typedOf kind) (keyAtFront (now (buf .entry)) last tag) ⌝ }
+{
+    let Typed::Is(wire) = wire_type(kind) else {
+        return Number {
+            number: 6,
+            value: 0,
+        };
+    };
+    put_words(capgauze::encode_key(last, tag, wire, buf))
+}
+
+// A key's bytes at the buffer's end.
+#[no_mangle]
+pub extern "C" fn capgauze_prepend_key(last: u32, tag: u32, kind: u64, buf: &mut [u8]) -> Number
+    ensures { λ r. ⌜ record { told = asNumber r; lent = now (buf .exit) } ≡ keyStored (now (buf .entry)) (typedOf kind) (keyAtEnd (now (buf .entry)) last tag) ⌝ }
+{
+    let Typed::Is(wire) = wire_type(kind) else {
+        return Number {
+            number: 6,
+            value: 0,
+        };
+    };
+    put_words(capgauze::prepend_key(last, tag, wire, buf))
+}
+
+// How many bytes a key takes.
+#[no_mangle]
+pub extern "C" fn capgauze_key_len(last: u32, tag: u32) -> Number
+    ensures { λ r. ⌜ asNumber r ≡ measuredTold (keyLen last tag) ⌝ }
+{
+    measured_words(capgauze::key_len(last, tag))
+}
+
+// The value of a type at a place.
+#[no_mangle]
+pub extern "C" fn capgauze_decode_value(s: &[u8], at: usize, end: usize, kind: u64) -> ValueWords
+    ensures { λ r. ⌜ asValue r ≡ valueTyped at (typedOf kind) (λ w. valueTold (decodeValue (now (s .entry)) at end w)) ⌝ }
+{
+    let Typed::Is(wire) = wire_type(kind) else {
+        return ValueWords {
+            number: 6,
+            value: 0,
+            length: 0,
+            place: at as u64,
+        };
+    };
+    value_read_words(capgauze::decode_value(s, at, end, wire))
+}
+
+// The place behind a value and the fields of its tag that follow.
+#[no_mangle]
+pub extern "C" fn capgauze_skip_field(s: &[u8], at: usize, end: usize, kind: u64) -> PlaceWords
+    ensures { λ r. ⌜ asPlace r ≡ placeTyped at (typedOf kind) (λ w. skippedTold (skipField (now (s .entry)) at end w)) ⌝ }
+{
+    let Typed::Is(wire) = wire_type(kind) else {
+        return PlaceWords {
+            number: 6,
+            place: at as u64,
+        };
+    };
+    skipped_words(capgauze::skip_field(s, at, end, wire))
+}
+
+// One step of a message.
+#[no_mangle]
+pub extern "C" fn capgauze_step_at(s: &[u8], at: usize, end: usize, last: u32) -> StepWords
+    ensures { λ r. ⌜ asStep r ≡ stepTold at last (stepEntry (now (s .entry)) at end last) ⌝ }
+{
+    step_words(at, last, capgauze::step_at(s, at, end, last))
 }
 
 // ---- messages

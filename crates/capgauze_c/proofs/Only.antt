@@ -1,0 +1,96 @@
+-- Any two outcomes that a contract of the face for C allows are equal: every word of the answer, and what was lent.
+use mathlib.Core.Path.{_∙_, sym}
+use denote.Ref.{now}
+use Rattle.wire.specs.Only.{One}
+use Rattle.capgauze.specs.Told as told
+use Rattle.capgauze_c.specs.Words.{Lent, asNumber, asVarint, asKey, asValue, asPlace, asStep, asRead, asPicked, asPart}
+use Rattle.capgauze_c.proofs.capgauze_encoded_len_varint.Kinds as encoded-len-varint
+use Rattle.capgauze_c.proofs.capgauze_encoded_len_varint.Reads as encoded-len-varint-reads
+use Rattle.capgauze_c.proofs.capgauze_i64_to_unsigned.Kinds as i64-to-unsigned
+use Rattle.capgauze_c.proofs.capgauze_i64_to_unsigned.Reads as i64-to-unsigned-reads
+use Rattle.capgauze_c.proofs.capgauze_u64_to_signed.Kinds as u64-to-signed
+use Rattle.capgauze_c.proofs.capgauze_u64_to_signed.Reads as u64-to-signed-reads
+use Rattle.capgauze_c.proofs.capgauze_decode_varint.Kinds as decode-varint
+use Rattle.capgauze_c.proofs.capgauze_decode_varint.Reads as decode-varint-reads
+use Rattle.capgauze_c.proofs.capgauze_decode_varint_capped.Kinds as decode-varint-capped
+use Rattle.capgauze_c.proofs.capgauze_decode_varint_capped.Reads as decode-varint-capped-reads
+use Rattle.capgauze_c.proofs.capgauze_encode_varint.Kinds as encode-varint
+use Rattle.capgauze_c.proofs.capgauze_encode_varint.Reads as encode-varint-reads
+use Rattle.capgauze_c.proofs.capgauze_prepend_varint.Kinds as prepend-varint
+use Rattle.capgauze_c.proofs.capgauze_prepend_varint.Reads as prepend-varint-reads
+use Rattle.capgauze_c.proofs.capgauze_decode_key.Kinds as decode-key
+use Rattle.capgauze_c.proofs.capgauze_decode_key.Reads as decode-key-reads
+use Rattle.capgauze_c.proofs.capgauze_encode_key.Kinds as encode-key
+use Rattle.capgauze_c.proofs.capgauze_encode_key.Reads as encode-key-reads
+use Rattle.capgauze_c.proofs.capgauze_prepend_key.Kinds as prepend-key
+use Rattle.capgauze_c.proofs.capgauze_prepend_key.Reads as prepend-key-reads
+use Rattle.capgauze_c.proofs.capgauze_key_len.Kinds as key-len
+use Rattle.capgauze_c.proofs.capgauze_key_len.Reads as key-len-reads
+use Rattle.capgauze_c.proofs.capgauze_decode_value.Kinds as decode-value
+use Rattle.capgauze_c.proofs.capgauze_decode_value.Reads as decode-value-reads
+use Rattle.capgauze_c.proofs.capgauze_skip_field.Kinds as skip-field
+use Rattle.capgauze_c.proofs.capgauze_skip_field.Reads as skip-field-reads
+use Rattle.capgauze_c.proofs.capgauze_step_at.Kinds as step-at
+use Rattle.capgauze_c.proofs.capgauze_step_at.Reads as step-at-reads
+use Rattle.capgauze_c.proofs.capgauze_read_message.Kinds as read-message
+use Rattle.capgauze_c.proofs.capgauze_read_message.Reads as read-message-reads
+use Rattle.capgauze_c.proofs.capgauze_payload_of.Kinds as payload-of
+use Rattle.capgauze_c.proofs.capgauze_payload_of.Reads as payload-of-reads
+use Rattle.capgauze_c.proofs.capgauze_read_payload.Kinds as read-payload
+use Rattle.capgauze_c.proofs.capgauze_read_payload.Reads as read-payload-reads
+use Rattle.capgauze_c.proofs.capgauze_pick.Kinds as pick
+use Rattle.capgauze_c.proofs.capgauze_pick.Reads as pick-reads
+
+pub encoded-len-varint-one : One 0 encoded-len-varint.ps encoded-len-varint.r encoded-len-varint-reads.Post (λ κs r s. r)
+encoded-len-varint-one κs a x y s t p q = p ∙ sym q
+
+pub i64-to-unsigned-one : One 0 i64-to-unsigned.ps i64-to-unsigned.r i64-to-unsigned-reads.Post (λ κs r s. r)
+i64-to-unsigned-one κs a x y s t p q = p ∙ sym q
+
+pub u64-to-signed-one : One 0 u64-to-signed.ps u64-to-signed.r u64-to-signed-reads.Post (λ κs r s. r)
+u64-to-signed-one κs a x y s t p q = p ∙ sym q
+
+pub decode-varint-one : One 1 decode-varint.ps decode-varint.r decode-varint-reads.Post (λ κs r s. asVarint r)
+decode-varint-one κs a x y s t p q = p ∙ sym q
+
+pub decode-varint-capped-one : One 1 decode-varint-capped.ps decode-varint-capped.r decode-varint-capped-reads.Post (λ κs r s. asVarint r)
+decode-varint-capped-one κs a x y s t p q = p ∙ sym q
+
+pub encode-varint-one : One 1 encode-varint.ps encode-varint.r encode-varint-reads.Post {S = Lent told.Number} (λ κs r s. record { told = asNumber r; lent = now (s .1 .0) })
+encode-varint-one κs a x y s t p q = p ∙ sym q
+
+pub prepend-varint-one : One 1 prepend-varint.ps prepend-varint.r prepend-varint-reads.Post {S = Lent told.Number} (λ κs r s. record { told = asNumber r; lent = now (s .1 .0) })
+prepend-varint-one κs a x y s t p q = p ∙ sym q
+
+pub decode-key-one : One 1 decode-key.ps decode-key.r decode-key-reads.Post (λ κs r s. asKey r)
+decode-key-one κs a x y s t p q = p ∙ sym q
+
+pub encode-key-one : One 1 encode-key.ps encode-key.r encode-key-reads.Post {S = Lent told.Number} (λ κs r s. record { told = asNumber r; lent = now (s .1 .1 .1 .0) })
+encode-key-one κs a x y s t p q = p ∙ sym q
+
+pub prepend-key-one : One 1 prepend-key.ps prepend-key.r prepend-key-reads.Post {S = Lent told.Number} (λ κs r s. record { told = asNumber r; lent = now (s .1 .1 .1 .0) })
+prepend-key-one κs a x y s t p q = p ∙ sym q
+
+pub key-len-one : One 0 key-len.ps key-len.r key-len-reads.Post (λ κs r s. asNumber r)
+key-len-one κs a x y s t p q = p ∙ sym q
+
+pub decode-value-one : One 1 decode-value.ps decode-value.r decode-value-reads.Post (λ κs r s. asValue r)
+decode-value-one κs a x y s t p q = p ∙ sym q
+
+pub skip-field-one : One 1 skip-field.ps skip-field.r skip-field-reads.Post (λ κs r s. asPlace r)
+skip-field-one κs a x y s t p q = p ∙ sym q
+
+pub step-at-one : One 1 step-at.ps step-at.r step-at-reads.Post (λ κs r s. asStep r)
+step-at-one κs a x y s t p q = p ∙ sym q
+
+pub read-message-one : One 2 read-message.ps read-message.r read-message-reads.Post {S = Lent told.Message} (λ κs r s. record { told = asRead r; lent = now (s .1 .1 .1 .0) })
+read-message-one κs a x y s t p q = p ∙ sym q
+
+pub payload-of-one : One 1 payload-of.ps payload-of.r payload-of-reads.Post (λ κs r s. asPart r)
+payload-of-one κs a x y s t p q = p ∙ sym q
+
+pub read-payload-one : One 2 read-payload.ps read-payload.r read-payload-reads.Post {S = Lent told.Message} (λ κs r s. record { told = asRead r; lent = now (s .1 .1 .1 .1 .1 .0) })
+read-payload-one κs a x y s t p q = p ∙ sym q
+
+pub pick-one : One 1 pick.ps pick.r pick-reads.Post (λ κs r s. asPicked r)
+pick-one κs a x y s t p q = p ∙ sym q

@@ -1,0 +1,31 @@
+-- A number that is no wire type, or what the face answers.
+use mathlib.Core.Path.{_∙_, ap, sym}
+use Rattle.capgauze.specs.Told.{valueTold}
+use Rattle.capgauze_c.specs.Words.{value-unknown, value-known}
+use borrow.Author.Needs.{needs}
+use Rattle.capgauze_c.proofs.capgauze_decode_value.Statement.{statement}
+use Rattle.capgauze_c.proofs.capgauze_decode_value.Tie as tie
+
+wire-type-requires : tie.Need-wire-type-requires
+wire-type-requires c κs = search needs
+
+enum-known-wire : tie.Need-enum-known-wire
+enum-known-wire c = search needs
+
+enum-told : tie.Need-enum-told
+enum-told c = search needs
+
+returns : tie.Need-returns
+returns c = sym (value-unknown _ _ _ (sym (c .before .before .wire-type .ensures) ∙ c .enum-told .given .1))
+
+decode-value-requires : tie.Need-decode-value-requires
+decode-value-requires c κs = search needs
+
+value-read-words-requires : tie.Need-value-read-words-requires
+value-read-words-requires c κs = search needs
+
+returns-2 : tie.Need-returns-2
+returns-2 c = c .value-read-words .ensures ∙ ap valueTold (c .before .decode-value .ensures) ∙ sym (value-known _ _ _ _ (sym (c .before .before .before .before .before .wire-type .ensures) ∙ c .before .before .before .wire .given .1))
+
+pub capgauze-decode-value-spec : {M : Type 1} → statement M
+capgauze-decode-value-spec = tie.close (tie.spec wire-type-requires enum-known-wire enum-told returns decode-value-requires value-read-words-requires returns-2)

@@ -1,0 +1,33 @@
+-- A number that is no wire type, or what the face answers and leaves.
+use mathlib.Core.Path.{_∙_, ap, sym}
+use Rattle.capgauze_c.specs.Words.{handed, storedTold, key-unknown, key-known}
+use borrow.Author.Needs.{needs}
+use Rattle.capgauze_c.proofs.capgauze_prepend_key.Statement.{statement}
+use Rattle.capgauze_c.proofs.capgauze_prepend_key.Tie as tie
+
+wire-type-requires : tie.Need-wire-type-requires
+wire-type-requires c κs = search needs
+
+enum-known-wire : tie.Need-enum-known-wire
+enum-known-wire c = search needs
+
+enum-told : tie.Need-enum-told
+enum-told c = search needs
+
+returns : tie.Need-returns
+returns c = sym (key-unknown _ _ _ (sym (c .before .before .wire-type .ensures) ∙ c .enum-told .given .1))
+
+prepend-key-requires : tie.Need-prepend-key-requires
+prepend-key-requires c κs = search needs
+
+put-words-requires : tie.Need-put-words-requires
+put-words-requires c κs = search needs
+
+same-length : tie.Need-same-length
+same-length c = search needs
+
+returns-2 : tie.Need-returns-2
+returns-2 c = handed (c .put-words .ensures) (ap storedTold (c .before .before .before .prepend-key .ensures) ∙ sym (key-known _ _ _ _ (sym (c .before .before .before .before .before .before .before .before .wire-type .ensures) ∙ c .before .before .before .before .before .before .wire .given .1)))
+
+pub capgauze-prepend-key-spec : {M : Type 1} → statement M
+capgauze-prepend-key-spec = tie.close (tie.spec wire-type-requires enum-known-wire enum-told returns prepend-key-requires put-words-requires same-length returns-2)

@@ -1,0 +1,31 @@
+-- A number that is no wire type, or what the face answers.
+use mathlib.Core.Path.{_∙_, ap, sym}
+use Rattle.capgauze.specs.Told.{skippedTold}
+use Rattle.capgauze_c.specs.Words.{place-unknown, place-known}
+use borrow.Author.Needs.{needs}
+use Rattle.capgauze_c.proofs.capgauze_skip_field.Statement.{statement}
+use Rattle.capgauze_c.proofs.capgauze_skip_field.Tie as tie
+
+wire-type-requires : tie.Need-wire-type-requires
+wire-type-requires c κs = search needs
+
+enum-known-wire : tie.Need-enum-known-wire
+enum-known-wire c = search needs
+
+enum-told : tie.Need-enum-told
+enum-told c = search needs
+
+returns : tie.Need-returns
+returns c = sym (place-unknown _ _ _ (sym (c .before .before .wire-type .ensures) ∙ c .enum-told .given .1))
+
+skip-field-requires : tie.Need-skip-field-requires
+skip-field-requires c κs = search needs
+
+skipped-words-requires : tie.Need-skipped-words-requires
+skipped-words-requires c κs = search needs
+
+returns-2 : tie.Need-returns-2
+returns-2 c = c .skipped-words .ensures ∙ ap skippedTold (c .before .skip-field .ensures) ∙ sym (place-known _ _ _ _ (sym (c .before .before .before .before .before .wire-type .ensures) ∙ c .before .before .before .wire .given .1))
+
+pub capgauze-skip-field-spec : {M : Type 1} → statement M
+capgauze-skip-field-spec = tie.close (tie.spec wire-type-requires enum-known-wire enum-told returns skip-field-requires skipped-words-requires returns-2)
