@@ -124,7 +124,7 @@ fn payload_at(s: &[u8], at: usize, end: usize) -> ValueFound
     ensures { λ r. ⌜ r ≡ valueAt (now (s .entry)) end at LengthDelimited ⌝ }
 {
     match varint::decode_varint(s, at) {
-        VarintFound::Refused(r) => ValueFound::Refused(r),
+        VarintFound::Refused(why) => ValueFound::Refused(why),
         VarintFound::Got(n, q) => {
             if ((s.len() - q) as u64) < n {
                 return ValueFound::Refused(Refusal::Truncated);

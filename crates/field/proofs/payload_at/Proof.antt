@@ -12,8 +12,8 @@ use Rattle.field.proofs.payload_at.Tie as tie
 decode-varint-requires : tie.Need-decode-varint-requires
 decode-varint-requires c κs = search needs
 
-enum-known-r : tie.Need-enum-known-r
-enum-known-r c = search needs
+enum-known-why : tie.Need-enum-known-why
+enum-known-why c = search needs
 
 enum-known-n : tie.Need-enum-known-n
 enum-known-n c = search needs
@@ -48,7 +48,7 @@ returns-2 c =
 returns-3 : tie.Need-returns-3
 returns-3 c =
     let a = c .before .before .before .before .before .args in
-    sym (ap (payloadFrom (a .s .now) (a .end)) (sym (c .before .before .before .decode-varint .ensures) ∙ c .before .r .given .1))
+    sym (ap (payloadFrom (a .s .now) (a .end)) (sym (c .before .before .before .decode-varint .ensures) ∙ c .before .why .given .1))
 
 returns-4 : tie.Need-returns-4
 returns-4 c =
@@ -63,7 +63,7 @@ payload-at-spec =
     tie.close
     (tie.spec
     decode-varint-requires
-    enum-known-r
+    enum-known-why
     enum-known-n
     sub-if1
     returns
