@@ -4,13 +4,15 @@ use mathlib.Core.Path.{_≡_, refl, ap, _∙_, sym}
 use mathlib.Core.List.{List, [], _∷_, _++_, append-assoc, append-nil}
 use native.Mathlib.Omega.{arith}
 use lib.ListN.{length, length-append}
-use Rattle.wire.specs.Reading.{fieldAt, Message, Fields, Refused, more, readsFrom, readMessage}
+use Rattle.wire.specs.Reading.{fieldAt, stepAt, Message, Fields, Refused, more, readsFrom, readMessage}
 use Rattle.wire.specs.ReadingLaws.{field-moves}
+use Rattle.wire.specs.StepBack.{way, Steps, field, refused, end, past, steps, step-field, step-end}
 use Rattle.wire.specs.Theorem.{turn-field, turn-refused, turn-end, turn-past}
 use Rattle.wire.specs.declared.Refusal.{Refusal}
 use Rattle.wire.specs.declared.Refusal.the-variants.{Truncated}
 use Rattle.wire.specs.declared.Field.{Field}
 use Rattle.wire.specs.declared.FieldFound.the-variants as fieldFound
+use Rattle.wire.specs.declared.Stepped.the-variants as stepped
 
 -- the fields that were read, ahead of the rest
 abbrev ahead : List Field → Message → Message
@@ -62,3 +64,19 @@ module _ {s : List ℕ} {start e m p last : ℕ} {fs : List Field} (w : Walk s s
 
   pub walk-past : e < p → readMessage s start e ≡ Refused Truncated m
   walk-past a = w .same ∙ ap (ahead fs) (turn-past s e m p last (w .k) a)
+
+  -- the same by steps
+  pub walk-step : (f : Field) (q : ℕ) → stepAt s e p last ≡ stepped.Field f q → Walk s start e p q (f .tag) (fs ++ f ∷ [])
+  walk-step f q h = let x = step-field s e p last f q h in walk-field (x .0) f q (x .1)
+
+  pub walk-steps-end : stepAt s e p last ≡ stepped.End → readMessage s start e ≡ Fields fs
+  walk-steps-end h = walk-end (step-end s e p last h)
+
+  pub walk-step-refused : (r : Refusal) → stepAt s e p last ≡ stepped.Refused r → (at : ℕ) × (readMessage s start e ≡ Refused r at)
+  walk-step-refused r h = go (steps s e p last)
+    where
+      go : Steps s e p last (stepAt s e p last) → (at : ℕ) × (readMessage s start e ≡ Refused r at)
+      go (field f q a b c) = absurd (omega (arith, ap way (sym c ∙ h)))
+      go (refused x a b c) = let y : stepped.Refused x ≡ stepped.Refused r = sym c ∙ h in let z : x ≡ r = cc in (p, walk-refused a x b ∙ cc)
+      go (end a c) = absurd (omega (arith, ap way (sym c ∙ h)))
+      go (past a c) = let y : stepped.Refused Truncated ≡ stepped.Refused r = sym c ∙ h in let z : Truncated ≡ r = cc in (m, walk-past a ∙ cc)

@@ -18,6 +18,7 @@ use wire::FieldFound;
 use wire::Read;
 use wire::Record;
 use wire::Refusal;
+use wire::Stepped;
 use wire::Value;
 
 // The number of fields, or a refusal and its place.
@@ -88,25 +89,26 @@ pub fn find_tag(s: &[u8], start: usize, end: usize, tag: u32, number: usize) -> 
         tag: 0,
         value: Value::Varint(0),
     };
-    while p < end {
-        match field::decode_field(s, p, end, last) {
-            FieldFound::Refused(r) => {
+    loop {
+        match field::step_from(s, p, end, last) {
+            Stepped::Refused(r) => {
                 return Sought::Refused(r);
             }
-            FieldFound::Got(f, next) => {
-                last = f.tag;
+            Stepped::End => {
+                break;
+            }
+            Stepped::Field(f, next) => {
                 p = next;
-                if last == tag {
-                    if count == number {
-                        found = f;
-                    }
-                    count += 1;
+                last = f.tag;
+                if last != tag {
+                    continue;
                 }
+                if count == number {
+                    found = f;
+                }
+                count += 1;
             }
         }
-    }
-    if p != end {
-        return Sought::Refused(Refusal::Truncated);
     }
     if number < count {
         return Sought::Found(found, count);

@@ -15,6 +15,7 @@ pub mod Places
 pub mod ReadingLaws
 pub mod SkippingLaws
 pub mod StepLaws
+pub mod StepBack
 pub mod Theorem
 pub mod Formats
 pub mod Table
