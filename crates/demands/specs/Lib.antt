@@ -1,0 +1,5 @@
+pub mod Calls
+pub mod Reading
+pub mod Refusals
+pub mod Cases
+pub mod Determined
