@@ -112,6 +112,7 @@ third c w =
     let m = message c in
     let t = table c in
     let e : outcome (answer c) (left c) ≡ readInto m 0 (length m) t =
-    c .allowed ∙ entry-open m (start c) (end c) t (w .short) (omega (arith, w .from)) (omega (arith, w .to)) ∙ rw (w .from, w .to)
+    c .allowed ∙ entry-open m (start c) (end c) t (w .short) (omega (arith, w .from)) (omega (arith, w .to))
+    ∙ ap (λ (i : ℕ). readInto m i (end c) t) (w .from) ∙ ap (λ (i : ℕ). readInto m 0 i t) (w .to)
     in
     subst (λ (o : Outcome). Third m t (o .table) (o .answer)) (sym e) (third-into m t (w .bytes) (w .enough) (readMessage m 0 (length m)) refl)
