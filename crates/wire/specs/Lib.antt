@@ -21,3 +21,9 @@ pub mod Formats
 pub mod Table
 pub mod Only
 pub mod Cases
+pub mod Records
+pub mod RecordLaws
+pub mod Writing
+pub mod WritingLaws
+pub mod Insertion
+pub mod InsertionLaws

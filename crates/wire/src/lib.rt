@@ -93,3 +93,27 @@ pub enum Read {
     Accepted(usize, usize),
     Refused(Refusal, usize, usize),
 }
+
+// What a writer answers: the start and the length of what it wrote, or a refusal and the two numbers that stand there instead.
+pub enum Written {
+    At(usize, usize),
+    Refused(Refusal, usize, usize),
+}
+
+// What insertion answers: the new count, or a refusal and the number that it carries.
+pub enum Inserted {
+    Count(usize),
+    Refused(Refusal, usize),
+}
+
+// What is said of one record behind another.
+pub enum Judged {
+    Fine,
+    Bad(Refusal),
+}
+
+// What is said of all records: how much of a budget of bytes they leave, or the first refusal and the number that it carries.
+pub enum Weighed {
+    Left(usize),
+    First(Refusal, usize),
+}
