@@ -16,12 +16,12 @@ use Rattle.wire.specs.Fixed.{fixed, length-fixed}
 use Rattle.wire.specs.Written.{type, writtenContent, writtenItem}
 use Rattle.wire.specs.Places.{shown, itemOf}
 use Rattle.wire.specs.Table.{recordAt, valueOf, fieldIn, goodValue, good}
-use Rattle.wire.specs.Records.{tagBefore, judge, Verdict, AllFine, First, andThen, tested, valueBytes, recordBytes, run, message}
+use Rattle.wire.specs.Records.{tagBefore, Judged, Fine, Bad, judge, Verdict, AllFine, First, andThen, tested, valueBytes, recordBytes, valueSize, recordSize, sized, weigh, run, message}
 use Rattle.wire.specs.declared.Record.{Record}
 use Rattle.wire.specs.declared.Refusal.{Refusal}
 use Rattle.wire.specs.declared.Refusal.the-variants.{BadRecord, OutOfOrder}
-use Rattle.wire.specs.declared.Judged.{Judged}
-use Rattle.wire.specs.declared.Judged.the-variants.{Fine, Bad}
+use Rattle.wire.specs.declared.Weight.{Weight}
+use Rattle.wire.specs.declared.Weight.the-variants as weight
 
 -- ---- a good record
 
@@ -185,16 +185,7 @@ module _ (s : List ℕ) (r : Record) where
   unfolding valueBytes
   bytes-eight e = rw e
 
--- ---- how many they are: the key measured without its type, then the value
-
-abbrev pub valueSize : ℕ → ℕ → ℕ → ℕ
-valueSize zero v l = length (encode v)
-valueSize (suc zero) v l = length (encode l) + l
-valueSize (suc (suc zero)) v l = 4
-valueSize (suc (suc (suc k))) v l = 8
-
-unfoldable pub recordSize : ℕ → Record → ℕ
-recordSize prev r = length (encode (4 * (r .tag - prev))) + valueSize (r .kind) (r .value) (r .length)
+-- ---- how many they are
 
 value-size : (s : List ℕ) (k v l : ℕ) → (k ≡ 1 → v + l ≤ length s) → length (writtenContent (shown s (valueOf k v l))) ≡ valueSize k v l
 value-size s zero v l h = refl
@@ -228,6 +219,33 @@ module _ (prev : ℕ) (r : Record) where
   pub size-eight : r .kind ≡ 3 → recordSize prev r ≡ length (encode (4 * (r .tag - prev))) + 8
   unfolding recordSize
   size-eight e = rw e
+
+-- ---- what is said of one record
+
+module _ (n prev : ℕ) (r : Record) where
+  pub weigh-bad : (why : Refusal) → judge n prev r ≡ Bad why → weigh n prev r ≡ weight.Bad why
+  unfolding weigh
+  weigh-bad why e = rw e
+
+  pub weigh-fine : judge n prev r ≡ Fine → weigh n prev r ≡ weight.Bytes (recordSize prev r)
+  unfolding weigh
+  weigh-fine e = rw e
+
+  pub weighed-bad : {w : Weight} (why : Refusal) → w ≡ weigh n prev r → w ≡ weight.Bad why → judge n prev r ≡ Bad why
+  unfolding weigh
+  weighed-bad {w} why e f = go (judge n prev r) refl
+    where
+      go : (j : Judged) → judge n prev r ≡ j → judge n prev r ≡ Bad why
+      go Fine q = let h = sym f ∙ e ∙ weigh-fine q in let z : _≡_ {A = ℕ} 0 1 = cc in absurd (omega arith)
+      go (Bad x) q = let h = sym f ∙ e ∙ weigh-bad x q in cc
+
+  pub weighed-bytes : {w : Weight} (k : ℕ) → w ≡ weigh n prev r → w ≡ weight.Bytes k → (judge n prev r ≡ Fine) × (k ≡ recordSize prev r)
+  unfolding weigh
+  weighed-bytes {w} k e f = go (judge n prev r) refl
+    where
+      go : (j : Judged) → judge n prev r ≡ j → (judge n prev r ≡ Fine) × (k ≡ recordSize prev r)
+      go Fine q = let h = sym f ∙ e ∙ weigh-fine q in (q, cc)
+      go (Bad x) q = let h = sym f ∙ e ∙ weigh-bad x q in let z : _≡_ {A = ℕ} 0 1 = cc in absurd (omega arith)
 
 -- ---- records behind one another
 

@@ -1,17 +1,18 @@
 -- The records of a table behind one another: how they are tested, and what they are written as.
-use Prim.Native.Nat.{ℕ, zero, suc}
+use Prim.Native.Nat.{ℕ, zero, suc, _+_, _-_, _*_}
 use mathlib.Core.List.{List}
 use lib.Dec.{leb}
 use lib.ListN.{length}
 use Rattle.wire.specs.Choose.{choose}
+use Rattle.wire.specs.Varint.{encode}
 use Rattle.wire.specs.Written.{writtenContent, writtenItem, writtenFrom, written}
 use Rattle.wire.specs.Places.{shown, itemOf, items}
 use Rattle.wire.specs.Table.{room, recordAt, valueOf, fieldIn, fieldsFrom, good}
 use Rattle.wire.specs.declared.Record.{Record}
 use Rattle.wire.specs.declared.Refusal.{Refusal}
 use Rattle.wire.specs.declared.Refusal.the-variants.{TooLong, BadRecord, OutOfOrder}
-use Rattle.wire.specs.declared.Judged.{Judged}
-use Rattle.wire.specs.declared.Judged.the-variants.{Fine, Bad}
+use Rattle.wire.specs.declared.Weight.{Weight}
+use Rattle.wire.specs.declared.Weight.the-variants as weight
 
 -- the tag before record i; before the first it is 0
 abbrev pub tagBefore : List ℕ → ℕ → ℕ
@@ -19,6 +20,10 @@ tagBefore t zero = 0
 tagBefore t (suc i) = recordAt t i .tag
 
 -- ---- tests
+
+pub data Judged : Type 0 where
+  Fine : Judged
+  Bad : Refusal → Judged
 
 -- one record behind a tag, over a source of n bytes: BadRecord before OutOfOrder
 unfoldable pub judge : ℕ → ℕ → Record → Judged
@@ -54,6 +59,24 @@ valueBytes s r = writtenContent (shown s (valueOf (r .kind) (r .value) (r .lengt
 -- a record behind a tag: its key, then its value
 unfoldable pub recordBytes : List ℕ → ℕ → Record → List ℕ
 recordBytes s prev r = writtenItem prev (itemOf s (fieldIn r))
+
+-- how many bytes they are: a value's, and a record's, whose key is measured without its type
+abbrev pub valueSize : ℕ → ℕ → ℕ → ℕ
+valueSize zero v l = length (encode v)
+valueSize (suc zero) v l = length (encode l) + l
+valueSize (suc (suc zero)) v l = 4
+valueSize (suc (suc (suc k))) v l = 8
+
+unfoldable pub recordSize : ℕ → Record → ℕ
+recordSize prev r = length (encode (4 * (r .tag - prev))) + valueSize (r .kind) (r .value) (r .length)
+
+-- what is said of a record behind a tag, over a source of n bytes: its size, or why it is refused
+abbrev pub sized : ℕ → Judged → Weight
+sized k Fine = weight.Bytes k
+sized k (Bad why) = weight.Bad why
+
+unfoldable pub weigh : ℕ → ℕ → Record → Weight
+weigh n prev r = sized (recordSize prev r) (judge n prev r)
 
 -- k records from record i on
 abbrev pub run : List ℕ → List ℕ → ℕ → ℕ → List ℕ

@@ -106,9 +106,9 @@ pub enum Inserted {
     Refused(Refusal, usize),
 }
 
-// What is said of one record behind another.
-pub enum Judged {
-    Fine,
+// What is said of one record behind another: how many bytes it is written as, or why not.
+pub enum Weight {
+    Bytes(usize),
     Bad(Refusal),
 }
 

@@ -7,14 +7,15 @@ use native.Mathlib.Numerals.{add-one}
 use lib.ListN.{length, getD, length-append}
 use Rattle.wire.specs.Limits.{recordWords}
 use Rattle.wire.specs.Table.{room, recordAt}
-use Rattle.wire.specs.Records.{tagBefore, judge, AllFine, First, tested, checked, recordBytes, run, message}
-use Rattle.wire.specs.RecordLaws.{Sound, good-sound, judge-fine, first-stays, recordSize, record-size, run-first, message-last, message-cut}
+use Rattle.wire.specs.Records.{tagBefore, Judged, Fine, Bad, judge, AllFine, First, tested, checked, recordBytes, recordSize, weigh, run, message}
+use Rattle.wire.specs.RecordLaws.{Sound, good-sound, judge-fine, weighed-bad, weighed-bytes, first-stays, record-size, run-first, message-last, message-cut}
 use Rattle.wire.specs.Writing.{spent}
-use Rattle.wire.specs.WritingLaws.{checked-tests, Ready, ready-at}
+use Rattle.wire.specs.WritingLaws.{checked-long, checked-count, checked-tests, Ready, ready-at}
 use Rattle.wire.specs.declared.Record.{Record}
 use Rattle.wire.specs.declared.Refusal.{Refusal}
-use Rattle.wire.specs.declared.Judged.{Judged}
-use Rattle.wire.specs.declared.Judged.the-variants.{Fine, Bad}
+use Rattle.wire.specs.declared.Refusal.the-variants.{TooLong, BadRecord}
+use Rattle.wire.specs.declared.Weight.{Weight}
+use Rattle.wire.specs.declared.Weight.the-variants as weight
 use Rattle.wire.specs.declared.Weighed.the-variants as weighed
 use Rattle.place.specs.Spans.{Spans, spans-none, spans-behind, spans-before, spans-length}
 
@@ -28,37 +29,45 @@ pub record Weighing (most : ℕ) (s t : List ℕ) (c left prev i : ℕ) : Type 0
   pub fine : tested i (length s) t ≡ AllFine
   pub held : left ≡ most + 1 - length (message s t i)
 
+-- the tests before the first record
+module _ (most : ℕ) (s t : List ℕ) (c : ℕ) where
+  pub source-long : most < length s → weighed.First TooLong 0 ≡ spent (most + 1) (length (message s t c)) (checked most s t c)
+  source-long h = sym (ap (spent (most + 1) (length (message s t c))) (checked-long most s t c h))
+
+  pub count-above : length s ≤ most → room t < c → weighed.First BadRecord (room t) ≡ spent (most + 1) (length (message s t c)) (checked most s t c)
+  count-above g h = sym (ap (spent (most + 1) (length (message s t c))) (checked-count most s t c g h))
+
 pub weigh-start : (most : ℕ) (s t : List ℕ) (c : ℕ) → length s ≤ most → c ≤ room t → Weighing most s t c (most + 1) 0 0
 weigh-start most s t c g h = record { short = g; count = h; index = omega arith; before = refl; fine = refl; held = omega arith }
 
 module _ {most : ℕ} {s t : List ℕ} {c left prev i : ℕ} (w : Weighing most s t c left prev i) where
-  -- as the calls of a turn say it: the record r, and what is said of it, j
-  module _ {r : Record} {j : Judged} (h : i < c) (q : r ≡ recordAt t i) (e : j ≡ judge (length s) prev r) where
-    said : judge (length s) (tagBefore t i) (recordAt t i) ≡ j
-    said = rw (← q, ← w .before) (sym e)
+  -- as the calls of a turn say it: the record r, and what is said of it, x
+  module _ {r : Record} {x : Weight} (h : i < c) (q : r ≡ recordAt t i) (e : x ≡ weigh (length s) prev r) where
+    judged : (j : Judged) → judge (length s) prev r ≡ j → judge (length s) (tagBefore t i) (recordAt t i) ≡ j
+    judged j f = rw (← q, ← w .before) f
 
-    pub weigh-bad : (why : Refusal) → j ≡ Bad why → weighed.First why i ≡ spent (most + 1) (length (message s t c)) (checked most s t c)
-    weigh-bad why b =
-        let f : tested (suc i) (length s) t ≡ First why i = rw (w .fine, said, b) in
+    pub turn-bad : (why : Refusal) → x ≡ weight.Bad why → weighed.First why i ≡ spent (most + 1) (length (message s t c)) (checked most s t c)
+    turn-bad why b =
+        let j = judged (Bad why) (weighed-bad (length s) prev r why e b) in
+        let f : tested (suc i) (length s) t ≡ First why i = rw (w .fine, j) in
         let z : c - suc i + suc i ≡ c = omega arith in
         let g : tested c (length s) t ≡ First why i = rw z at (first-stays (length s) t (suc i) (c - suc i) why i f) in
         sym (ap (spent (most + 1) (length (message s t c))) (checked-tests most s t c (w .short) (w .count) ∙ g))
 
-    pub weigh-sound : j ≡ Fine → Sound (length s) r × (prev ≤ r .tag)
-    weigh-sound b = let f = judge-fine (length s) prev r (sym e ∙ b) in (good-sound (length s) r (f .0), f .1)
-
-    pub weigh-more : j ≡ Fine → {left′ : ℕ} → left′ ≡ left - recordSize prev r → Weighing most s t c left′ (r .tag) (i + 1)
-    weigh-more b {left′} l =
+    pub turn-more : (k : ℕ) → x ≡ weight.Bytes k → {left′ : ℕ} → left′ ≡ left - k → Weighing most s t c left′ (r .tag) (i + 1)
+    turn-more k b {left′} l =
+        let f = weighed-bytes (length s) prev r k e b in
+        let j = judged Fine (f .0) in
         let n = recordBytes s (tagBefore t i) (recordAt t i) in
-        let a : message s t (suc i) ≡ message s t i ++ n = message-last s t i in
-        let x : length n ≡ recordSize prev r = rw (← q, ← w .before) (record-size s prev r (weigh-sound b .0)) in
+        let g = good-sound (length s) r (judge-fine (length s) prev r (f .0) .0) in
+        let m : length n ≡ recordSize prev r = rw (← q, ← w .before) (record-size s prev r g) in
         record {
           short = w .short;
           count = w .count;
           index = omega arith;
           before = rw (add-one i, q);
-          fine = rw (add-one i, w .fine, said, b);
-          held = rw (add-one i) (omega (arith, w .held, ap length a, length-append (message s t i) n, x));
+          fine = rw (add-one i, w .fine, j);
+          held = rw (add-one i) (omega (arith, w .held, ap length (message-last s t i), length-append (message s t i) n, m, f .1));
         }
 
   pub weigh-done : c ≤ i → weighed.Left left ≡ spent (most + 1) (length (message s t c)) (checked most s t c)

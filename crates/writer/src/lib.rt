@@ -5,21 +5,19 @@ ghost use Prim.Native.Nat.{_+_, _-_, _*_, _≤_, _<_, _^_};
 ghost use lib.ListN.{length};
 ghost use Rattle.place.specs.Spans.{Spans};
 ghost use Rattle.wire.specs.Varint.{encode};
-ghost use Rattle.wire.specs.Table.{room, recordAt, good};
-ghost use Rattle.wire.specs.Records.{tagBefore, judge, checked, valueBytes, recordBytes, message};
-ghost use Rattle.wire.specs.RecordLaws.{Sound, recordSize};
+ghost use Rattle.wire.specs.Table.{room, recordAt};
+ghost use Rattle.wire.specs.Records.{tagBefore, checked, valueBytes, recordBytes, message};
+ghost use Rattle.wire.specs.RecordLaws.{Sound};
 ghost use Rattle.wire.specs.Writing.{plan, measured, fitted, spent, Outcome, front, back};
 ghost use Rattle.wire.specs.WritingLaws.{Ready};
-use wire::Judged;
-use wire::LAST_TAG;
 use wire::RECORD_WORDS;
 use wire::Record;
 use wire::Refusal;
 use wire::Weighed;
+use wire::Weight;
 use wire::Written;
 
-// ---- one record
-
+// A record's words.
 fn load(table: &[u64], i: usize) -> Record
     requires { ⌜ i < room (now table) ⌝ }
     ensures { λ r. ⌜ r ≡ recordAt (now (table .entry)) i ⌝ }
@@ -33,80 +31,7 @@ fn load(table: &[u64], i: usize) -> Record
     }
 }
 
-// A good record over a source of size bytes. A payload is tested with no sum, which could wrap.
-pub fn is_good(size: u64, r: Record) -> bool
-    ensures { λ b. ⌜ b ≡ good size r ⌝ }
-{
-    let kind = r.kind;
-    let value = r.value;
-    let length = r.length;
-    if LAST_TAG < r.tag {
-        return false;
-    }
-    if kind < 2 {
-        if kind == 0 {
-            return length == 0;
-        }
-        if size < value {
-            return false;
-        }
-        return length <= size - value;
-    }
-    if kind == 2 {
-        if length == 4 {
-            return value < 0x1_0000_0000;
-        }
-        return false;
-    }
-    if kind == 3 {
-        return length == 8;
-    }
-    false
-}
-
-// A record behind one of tag prev.
-fn judge_record(size: u64, prev: u64, r: Record) -> Judged
-    ensures { λ j. ⌜ j ≡ judge size prev r ⌝ }
-{
-    if is_good(size, r) {
-        if r.tag < prev {
-            return Judged::Bad(Refusal::OutOfOrder);
-        }
-        return Judged::Fine;
-    }
-    Judged::Bad(Refusal::BadRecord)
-}
-
 // ---- measured
-
-// Most numbers are one byte.
-fn number_len(v: u64) -> usize
-    ensures { λ n. ⌜ n ≡ length (encode v) ⌝ }
-{
-    if v < 128 {
-        return 1;
-    }
-    varint::encoded_len_varint(v)
-}
-
-// The bytes of a record. Its key is measured without the type: no limit lies between two types of one tag.
-fn record_len(prev: u64, r: Record) -> usize
-    requires { ⌜ (prev ≤ r .tag) × (r .tag < 2 ^ 32) × (r .kind < 4) × (r .kind ≡ 1 → r .length < 2 ^ 32) ⌝ }
-    ensures { λ n. ⌜ n ≡ recordSize prev r ⌝ }
-{
-    let kind = r.kind;
-    let key = number_len(4 * (r.tag - prev));
-    if kind < 2 {
-        if kind == 0 {
-            return key + number_len(r.value);
-        }
-        return key + (number_len(r.length) + r.length as usize);
-    }
-    if kind == 2 {
-        return key + 4;
-    }
-    key + 8
-}
 
 // What is left of a budget.
 fn spend(left: usize, n: usize) -> usize
@@ -130,16 +55,16 @@ pub fn weigh(source: &[u8], table: &[u64], count: usize, most: u32) -> Weighed
     if records < count {
         return Weighed::First(Refusal::BadRecord, records);
     }
-    let size = source.len() as u64;
+    let size = source.len() as u32;
     let mut left = most as usize + 1;
     let mut prev: u64 = 0;
     let mut i: usize = 0;
     while i < count {
         let r = load(table, i);
-        if let Judged::Bad(why) = judge_record(size, prev, r) {
-            return Weighed::First(why, i);
+        match record::weigh_record(size, prev, r) {
+            Weight::Bad(why) => return Weighed::First(why, i),
+            Weight::Bytes(n) => left = spend(left, n),
         }
-        left = spend(left, record_len(prev, r));
         prev = r.tag;
         i += 1;
     }

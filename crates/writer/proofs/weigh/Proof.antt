@@ -1,12 +1,7 @@
 -- `writer::weigh` meets its contract.
-use Prim.Native.Nat.{_+_, _-_, _<_}
-use mathlib.Core.Path.{_≡_, sym, ap, _∙_}
+use Prim.Native.Nat.{_-_}
 use native.Mathlib.Omega.{arith}
-use lib.ListN.{length}
-use Rattle.wire.specs.Records.{message}
-use Rattle.wire.specs.Writing.{spent}
-use Rattle.wire.specs.WritingLaws.{checked-long, checked-count}
-use Rattle.writer.proofs.Turns.{Weighing, weigh-start, weigh-bad, weigh-sound, weigh-more, weigh-done}
+use Rattle.writer.proofs.Turns.{source-long, count-above, Weighing, weigh-start, turn-bad, turn-more, weigh-done}
 use borrow.Author.Needs.{needs}
 use Rattle.writer.proofs.weigh.Statement.{statement}
 use Rattle.writer.proofs.weigh.Tie as tie
@@ -18,14 +13,13 @@ abbrev μ-loop : tie.MeasureT-loop
 μ-loop source table count most records size left₀ prev₀ i₀ left prev i = count - i
 
 returns : tie.Need-returns Inv-loop μ-loop
-returns c =
-    let a = c .before .before .before .args in
-    sym (ap (spent (a .most + 1) (length (message (a .source .now) (a .table .now) (a .count)))) (checked-long (a .most) (a .source .now) (a .table .now) (a .count) (c .if1 .taken)))
+returns c = source-long _ _ _ _ (c .if1 .taken)
 
 returns-2 : tie.Need-returns-2 Inv-loop μ-loop
-returns-2 c =
-    let a = c .before .before .before .before .args in
-    sym (ap (spent (a .most + 1) (length (message (a .source .now) (a .table .now) (a .count)))) (checked-count (a .most) (a .source .now) (a .table .now) (a .count) (c .before .if1 .left) (c .if2 .taken)))
+returns-2 c = count-above _ _ _ _ (c .before .if1 .left) (c .if2 .taken)
+
+cast-size : tie.Need-cast-size Inv-loop μ-loop
+cast-size c = search needs
 
 add-left : tie.Need-add-left Inv-loop μ-loop
 add-left c = search needs
@@ -36,23 +30,17 @@ loop-holds c = weigh-start _ _ _ _ (c .before .if1 .left) (c .if2 .left)
 load-requires : tie.Need-load-requires Inv-loop μ-loop
 load-requires c κs = omega (arith, c .before .loop .inv .count, c .loop-test .taken)
 
-judge-record-requires : tie.Need-judge-record-requires Inv-loop μ-loop
-judge-record-requires c κs = search needs
+weigh-record-requires : tie.Need-weigh-record-requires Inv-loop μ-loop
+weigh-record-requires c κs = search needs
 
 enum-known-why : tie.Need-enum-known-why Inv-loop μ-loop
 enum-known-why c = search needs
 
 returns-3 : tie.Need-returns-3 Inv-loop μ-loop
-returns-3 c = weigh-bad (c .before .before .before .before .before .before .loop .inv) (c .before .before .before .before .before .loop-test .taken) (c .before .before .before .before .load .ensures) (c .before .before .before .judge-record .ensures) _ (c .before .why .given .1)
+returns-3 c = turn-bad (c .before .before .before .before .before .before .loop .inv) (c .before .before .before .before .before .loop-test .taken) (c .before .before .before .before .load .ensures) (c .before .before .before .weigh-record .ensures) _ (c .before .why .given .1)
 
-enum-told : tie.Need-enum-told Inv-loop μ-loop
-enum-told c = search needs
-
-record-len-requires : tie.Need-record-len-requires Inv-loop μ-loop
-record-len-requires c κs =
-    let w = c .before .before .before .before .before .loop .inv in
-    let f = weigh-sound w (c .before .before .before .before .loop-test .taken) (c .before .before .before .load .ensures) (c .before .before .judge-record .ensures) (c .enum-told .given .1) in
-    (f .1, f .0 .tag, f .0 .kind, λ k. omega (arith, f .0 .payload k, w .short, c .before .before .before .before .before .before .before .before .before .before .fits .most .fits))
+enum-known-n : tie.Need-enum-known-n Inv-loop μ-loop
+enum-known-n c = search needs
 
 spend-requires : tie.Need-spend-requires Inv-loop μ-loop
 spend-requires c κs = search needs
@@ -64,9 +52,7 @@ loop-less : tie.Need-loop-less Inv-loop μ-loop
 loop-less c = search needs
 
 loop-again : tie.Need-loop-again Inv-loop μ-loop
-loop-again c =
-    weigh-more (c .before .before .before .before .before .before .before .loop .inv) (c .before .before .before .before .before .before .loop-test .taken) (c .before .before .before .before .before .load .ensures) (c .before .before .before .before .judge-record .ensures) (c .before .before .enum-told .given .1)
-    (c .spend .ensures ∙ rw (c .before .record-len .ensures))
+loop-again c = turn-more (c .before .before .before .before .before .before .before .loop .inv) (c .before .before .before .before .before .before .loop-test .taken) (c .before .before .before .before .before .load .ensures) (c .before .before .before .before .weigh-record .ensures) _ (c .before .before .n .given .1) (c .spend .ensures)
 
 returns-4 : tie.Need-returns-4 Inv-loop μ-loop
 returns-4 c = weigh-done (c .before .loop .inv) (c .loop-test .left)
@@ -79,14 +65,14 @@ weigh-spec =
     μ-loop
     returns
     returns-2
+    cast-size
     add-left
     loop-holds
     load-requires
-    judge-record-requires
+    weigh-record-requires
     enum-known-why
     returns-3
-    enum-told
-    record-len-requires
+    enum-known-n
     spend-requires
     add-i
     loop-less

@@ -1,12 +1,12 @@
--- `writer::record_len` meets its contract.
+-- `record::record_len` meets its contract.
 use Prim.Native.Nat.{_*_, _-_, _≤_}
 use mathlib.Core.Path.{sym}
 use native.Mathlib.Omega.{arith}
 use Rattle.wire.specs.VarintLaws.{length-le}
 use Rattle.wire.specs.RecordLaws.{size-varint, size-payload, size-four, size-eight}
 use borrow.Author.Needs.{needs}
-use Rattle.writer.proofs.record_len.Statement.{statement}
-use Rattle.writer.proofs.record_len.Tie as tie
+use Rattle.record.proofs.record_len.Statement.{statement}
+use Rattle.record.proofs.record_len.Tie as tie
 
 -- a key is measured as nine bytes at most
 key-short : (c : tie.After-number-len) → c .number-len .result ≤ 9

@@ -1,12 +1,12 @@
--- `writer::number_len` meets its contract.
+-- `record::number_len` meets its contract.
 use mathlib.Core.Path.{sym, ap}
 use mathlib.Core.Logic.{inl}
 use lib.ListN.{length}
 use Rattle.wire.specs.Varint.{encode}
 use Rattle.wire.specs.VarintLaws.{enc-ends}
 use borrow.Author.Needs.{needs}
-use Rattle.writer.proofs.number_len.Statement.{statement}
-use Rattle.writer.proofs.number_len.Tie as tie
+use Rattle.record.proofs.number_len.Statement.{statement}
+use Rattle.record.proofs.number_len.Tie as tie
 
 returns : tie.Need-returns
 unfolding encode

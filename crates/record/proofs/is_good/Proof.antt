@@ -1,9 +1,9 @@
--- `writer::is_good` meets its contract.
+-- `record::is_good` meets its contract.
 use mathlib.Core.Path.{sym}
 use native.Mathlib.Omega.{arith}
 use Rattle.wire.specs.RecordLaws.{bad-tag, good-varint, good-payload, bad-payload, good-four, bad-four, good-eight, bad-kind}
-use Rattle.writer.proofs.is_good.Statement.{statement}
-use Rattle.writer.proofs.is_good.Tie as tie
+use Rattle.record.proofs.is_good.Statement.{statement}
+use Rattle.record.proofs.is_good.Tie as tie
 
 returns : tie.Need-returns
 returns c = sym (bad-tag _ _ (omega arith))
