@@ -47,7 +47,13 @@ fn put_between(table: &mut [u64], from: usize, to: usize, r: Record)
 }
 
 // The new record in its place, where no test refuses. The records are tested as the writers test them.
-pub fn insert_record(source: &[u8], table: &mut [u64], count: usize, added: Record, most: u32) -> Inserted
+pub fn insert_record(
+    source: &[u8],
+    table: &mut [u64],
+    count: usize,
+    added: Record,
+    most: u32,
+) -> Inserted
     ensures { λ r. ⌜ record { answer = r; table = now (table .exit) } ≡ inserts (now (table .entry)) count added (aim most (now (source .entry)) (now (table .entry)) count added) ⌝ }
 {
     match writer::weigh(source, table, count, most) {

@@ -42,7 +42,7 @@ pub record Insertion : Type 0 where
 -- the records before the new one, the new one, those behind it moved up one, and every word behind them as it was
 abbrev pub inserted : List ℕ → ℕ → Record → ℕ → List ℕ
 inserted t c r p =
-    take (recordWords * p) t ++ words r ++ part t (recordWords * p) (recordWords * c) ++ drop (recordWords * (c + 1)) t
+    take (recordWords * p) t ++ (words r ++ part t (recordWords * p) (recordWords * c)) ++ drop (recordWords * (c + 1)) t
 
 unfoldable pub inserts : List ℕ → ℕ → Record → Aim → Insertion
 inserts t c r (Puts p) = record { answer = Count (c + 1); table = inserted t c r p }

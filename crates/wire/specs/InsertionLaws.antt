@@ -19,11 +19,17 @@ use Rattle.wire.specs.declared.Inserted.the-variants.{Count, Refused}
 
 -- ---- the spot
 
-pub spot-behind : (i : ℕ) (t : List ℕ) (tag : ℕ) → recordAt t i .tag ≤ tag → spot (suc i) t tag ≡ suc i
-spot-behind i t tag h = rw (le-leb (recordAt t i .tag) tag h)
+pub spot-behind : (i : ℕ) (t : List ℕ) (tag : ℕ) → 0 < i → recordAt t (i - 1) .tag ≤ tag → spot i t tag ≡ i
+spot-behind zero t tag g h = absurd (omega arith)
+spot-behind (suc i) t tag g h =
+    let e : suc i - 1 ≡ i = omega arith in
+    rw (le-leb (recordAt t i .tag) tag (rw e at h))
 
-pub spot-before : (i : ℕ) (t : List ℕ) (tag : ℕ) → tag < recordAt t i .tag → spot (suc i) t tag ≡ spot i t tag
-spot-before i t tag h = rw (lt-leb (recordAt t i .tag) tag h)
+pub spot-before : (i : ℕ) (t : List ℕ) (tag : ℕ) → 0 < i → tag < recordAt t (i - 1) .tag → spot i t tag ≡ spot (i - 1) t tag
+spot-before zero t tag g h = absurd (omega arith)
+spot-before (suc i) t tag g h =
+    let e : suc i - 1 ≡ i = omega arith in
+    rw (e, lt-leb (recordAt t i .tag) tag (rw e at h))
 
 pub spot-inside : (c : ℕ) (t : List ℕ) (tag : ℕ) → spot c t tag ≤ c
 spot-inside zero t tag = omega arith

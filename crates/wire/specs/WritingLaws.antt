@@ -91,22 +91,22 @@ module _ (most : ℕ) (s t : List ℕ) (c : ℕ) where
       let p = passed-writes most (message s t c) (checked most s t c) bs e in
       (checked-fine most s t c (p .0) .1, p .1)
 
--- ---- what the count of the bytes tells of the plan
+-- ---- what the count of the bytes tells of the tests and of the plan
 
 module _ (most : ℕ) (s t : List ℕ) (c : ℕ) {w : Weighed} (e : w ≡ spent (most + 1) (length (message s t c)) (checked most s t c)) where
   told : (v : Verdict) → checked most s t c ≡ v → w ≡ spent (most + 1) (length (message s t c)) v
   told v q = e ∙ ap (spent (most + 1) (length (message s t c))) q
 
-  pub spent-first : (why : Refusal) (i : ℕ) → w ≡ weighed.First why i → plan most s t c ≡ Refuses why i
+  pub spent-first : (why : Refusal) (i : ℕ) → w ≡ weighed.First why i → checked most s t c ≡ First why i
   spent-first why i f = go (checked most s t c) refl
     where
-      go : (v : Verdict) → checked most s t c ≡ v → plan most s t c ≡ Refuses why i
+      go : (v : Verdict) → checked most s t c ≡ v → checked most s t c ≡ First why i
       go AllFine q = let h = sym f ∙ told AllFine q in let z : _≡_ {A = ℕ} 0 1 = cc in absurd (omega arith)
       go (First r j) q =
           let h = sym f ∙ told (First r j) q in
           let a : r ≡ why = cc in
           let b : j ≡ i = cc in
-          plan-first most s t c why i (q ∙ rw (a, b))
+          q ∙ rw (a, b)
 
   -- what is left: nothing, where the bytes are more than most; else the difference
   pub spent-left : (left : ℕ) → w ≡ weighed.Left left → (checked most s t c ≡ AllFine) × (left ≡ most + 1 - length (message s t c))

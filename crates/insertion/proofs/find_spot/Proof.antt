@@ -1,53 +1,45 @@
+-- `insertion::find_spot` meets its contract.
+use native.Mathlib.Omega.{arith}
+use Rattle.insertion.proofs.Turns.{Finding, find-start, find-here, find-more, find-done}
+use borrow.Author.Needs.{needs}
 use Rattle.insertion.proofs.find_spot.Statement.{statement}
 use Rattle.insertion.proofs.find_spot.Tie as tie
-use Rattle.insertion.proofs.find_spot.Reads as reads
-use Rattle.insertion.proofs.find_spot.Lts as lts
 
 abbrev Inv-loop : tie.InvT-loop
-Inv-loop table count tag i₀ i = ?
+Inv-loop table count tag i₀ i = Finding table count tag i
 
 abbrev μ-loop : tie.MeasureT-loop
-μ-loop table count tag i₀ i = ?
+μ-loop table count tag i₀ i = i
 
--- src/lib.rt:24:5
 loop-holds : tie.Need-loop-holds Inv-loop μ-loop
-loop-holds c = ?
+loop-holds c = find-start _ _ _
 
--- src/lib.rt:25:34
 sub-if1 : tie.Need-sub-if1 Inv-loop μ-loop
-sub-if1 c = ?
+sub-if1 c = search needs
 
--- src/lib.rt:25:18
 mul-if1 : tie.Need-mul-if1 Inv-loop μ-loop
-mul-if1 c = ?
+mul-if1 c = omega (arith, c .before .loop .inv .index, c .before .before .pre)
 
--- src/lib.rt:25:12
 mul-if1-2 : tie.Need-mul-if1-2 Inv-loop μ-loop
-mul-if1-2 c = ?
+mul-if1-2 c = search needs
 
--- src/lib.rt:25:12
 shared-slice-read-if1 : tie.Need-shared-slice-read-if1 Inv-loop μ-loop
-shared-slice-read-if1 c = ?
+shared-slice-read-if1 c = omega (arith, c .before .before .loop .inv .index, c .before .before .before .pre)
 
--- src/lib.rt:26:13
 returns : tie.Need-returns Inv-loop μ-loop
-returns c = ?
+returns c = find-here (c .before .before .before .loop .inv) (c .before .before .loop-test .taken) (c .if1 .taken)
 
--- src/lib.rt:28:9
 sub-i : tie.Need-sub-i Inv-loop μ-loop
-sub-i c = ?
+sub-i c = search needs
 
--- src/lib.rt:24:5
 loop-less : tie.Need-loop-less Inv-loop μ-loop
-loop-less c = ?
+loop-less c = search needs
 
--- src/lib.rt:24:5
 loop-again : tie.Need-loop-again Inv-loop μ-loop
-loop-again c = ?
+loop-again c = find-more (c .before .before .before .loop .inv) (c .before .before .loop-test .taken) (c .if1 .left)
 
--- src/lib.rt:19:1
 returns-2 : tie.Need-returns-2 Inv-loop μ-loop
-returns-2 c = ?
+returns-2 c = find-done (c .before .loop .inv) (c .loop-test .left)
 
 pub find-spot-spec : {M : Type 1} → statement M
 find-spot-spec =

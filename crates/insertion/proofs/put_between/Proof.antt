@@ -1,101 +1,84 @@
+-- `insertion::put_between` meets its contract.
+use mathlib.Core.Path.{_∙_}
+use native.Mathlib.Omega.{arith}
+use native.Mathlib.Numerals.{towards-suc}
+use lib.ListN.{length-set}
+use Rattle.insertion.proofs.Turns.{Moving, move-start, move-length, move-more, move-done}
+use borrow.Author.Needs.{needs}
 use Rattle.insertion.proofs.put_between.Statement.{statement}
 use Rattle.insertion.proofs.put_between.Tie as tie
-use Rattle.insertion.proofs.put_between.Reads as reads
-use Rattle.insertion.proofs.put_between.Lts as lts
 
 abbrev Inv-loop : tie.InvT-loop
-Inv-loop table₀ from to r j₀ table j = ?
+Inv-loop table₀ from to r j₀ table j = Moving table₀ from to table j
 
 abbrev μ-loop : tie.MeasureT-loop
-μ-loop table₀ from to r j₀ table j = ?
+μ-loop table₀ from to r j₀ table j = j
 
--- src/lib.rt:39:5
 loop-holds : tie.Need-loop-holds Inv-loop μ-loop
-loop-holds c = ?
+loop-holds c = move-start _ _ _ (c .pre .0) (c .pre .1)
 
--- src/lib.rt:40:9
 sub-j : tie.Need-sub-j Inv-loop μ-loop
-sub-j c = ?
+sub-j c = search needs
 
--- src/lib.rt:41:35
 mul-table : tie.Need-mul-table Inv-loop μ-loop
-mul-table c = ?
+mul-table c = search needs
 
--- src/lib.rt:41:35
 slice-read-table : tie.Need-slice-read-table Inv-loop μ-loop
-slice-read-table c = ?
+slice-read-table c = let w = c .before .before .loop .inv in omega (arith, move-length w, w .high, w .roomy)
 
--- src/lib.rt:41:15
 add-table : tie.Need-add-table Inv-loop μ-loop
-add-table c = ?
+add-table c = let w = c .before .before .loop .inv in omega (arith, w .high, w .roomy)
 
--- src/lib.rt:41:9
 mul-table-2 : tie.Need-mul-table-2 Inv-loop μ-loop
-mul-table-2 c = ?
+mul-table-2 c = search needs
 
--- src/lib.rt:41:9
 slice-write-table : tie.Need-slice-write-table Inv-loop μ-loop
-slice-write-table c = ?
+slice-write-table c = let w = c .before .before .loop .inv in omega (arith, move-length w, w .high, w .roomy)
 
--- src/lib.rt:39:5
 loop-less : tie.Need-loop-less Inv-loop μ-loop
-loop-less c = ?
+loop-less c = search needs
 
--- src/lib.rt:39:5
 loop-again : tie.Need-loop-again Inv-loop μ-loop
-loop-again c = ?
+loop-again c = move-more (c .before .before .loop .inv) (c .before .loop-test .taken)
 
--- src/lib.rt:43:5
 mul-table-3 : tie.Need-mul-table-3 Inv-loop μ-loop
-mul-table-3 c = ?
+mul-table-3 c = search needs
 
--- src/lib.rt:43:5
 slice-write-table-2 : tie.Need-slice-write-table-2 Inv-loop μ-loop
-slice-write-table-2 c = ?
+slice-write-table-2 c = let l = move-length (c .before .loop .inv) in omega (arith, c .before .before .pre .0, c .before .before .pre .1)
 
--- src/lib.rt:44:11
 add-table-2 : tie.Need-add-table-2 Inv-loop μ-loop
-add-table-2 c = ?
+add-table-2 c = search needs
 
--- src/lib.rt:44:5
 mul-table-4 : tie.Need-mul-table-4 Inv-loop μ-loop
-mul-table-4 c = ?
+mul-table-4 c = search needs
 
--- src/lib.rt:44:5
 slice-write-table-3 : tie.Need-slice-write-table-3 Inv-loop μ-loop
-slice-write-table-3 c = ?
+slice-write-table-3 c = let l = move-length (c .before .loop .inv) in simp length-set (omega (arith, c .before .before .pre .0, c .before .before .pre .1))
 
--- src/lib.rt:45:11
 add-table-3 : tie.Need-add-table-3 Inv-loop μ-loop
-add-table-3 c = ?
+add-table-3 c = search needs
 
--- src/lib.rt:45:5
 mul-table-5 : tie.Need-mul-table-5 Inv-loop μ-loop
-mul-table-5 c = ?
+mul-table-5 c = search needs
 
--- src/lib.rt:45:5
 slice-write-table-4 : tie.Need-slice-write-table-4 Inv-loop μ-loop
-slice-write-table-4 c = ?
+slice-write-table-4 c = let l = move-length (c .before .loop .inv) in simp length-set (omega (arith, c .before .before .pre .0, c .before .before .pre .1))
 
--- src/lib.rt:46:11
 add-table-4 : tie.Need-add-table-4 Inv-loop μ-loop
-add-table-4 c = ?
+add-table-4 c = search needs
 
--- src/lib.rt:46:5
 mul-table-6 : tie.Need-mul-table-6 Inv-loop μ-loop
-mul-table-6 c = ?
+mul-table-6 c = search needs
 
--- src/lib.rt:46:5
 slice-write-table-5 : tie.Need-slice-write-table-5 Inv-loop μ-loop
-slice-write-table-5 c = ?
+slice-write-table-5 c = let l = move-length (c .before .loop .inv) in simp length-set (omega (arith, c .before .before .pre .0, c .before .before .pre .1))
 
--- src/lib.rt:34:1
 same-length : tie.Need-same-length Inv-loop μ-loop
-same-length c = ?
+same-length c = simp length-set (move-length (c .before .loop .inv))
 
--- src/lib.rt:34:1
 returns : tie.Need-returns Inv-loop μ-loop
-returns c = ?
+returns c = simp towards-suc (move-done (c .before .loop .inv) (c .loop-test .left) (c .before .before .args .r))
 
 pub put-between-spec : {M : Type 1} → statement M
 put-between-spec =

@@ -2,7 +2,7 @@
 use Prim.Native.Nat.{_+_, _-_}
 use mathlib.Core.Path.{_≡_, sym, ap, _∙_}
 use native.Mathlib.Omega.{arith}
-use Rattle.wire.specs.WritingLaws.{spent-first, spent-left, spent-over, spent-fine, measured-refuses, measured-writes}
+use Rattle.wire.specs.WritingLaws.{plan-first, spent-first, spent-left, spent-over, spent-fine, measured-refuses, measured-writes}
 use Rattle.wire.specs.declared.Written.the-variants.{At}
 use borrow.Author.Needs.{needs}
 use Rattle.writer.proofs.measure.Statement.{statement}
@@ -29,7 +29,7 @@ sub-t14 c =
     omega (arith, spent-left (a .most) (a .source .now) (a .table .now) (a .count) (c .before .before .before .before .weigh .ensures) _ (c .before .before .left .given .1) .1)
 
 returns-2 : tie.Need-returns-2
-returns-2 c = sym (measured-refuses (spent-first _ _ _ _ (c .before .before .before .weigh .ensures) _ _ (c .before .why .given .1)))
+returns-2 c = sym (measured-refuses (plan-first _ _ _ _ _ _ (spent-first _ _ _ _ (c .before .before .before .weigh .ensures) _ _ (c .before .why .given .1))))
 
 returns-3 : tie.Need-returns-3
 returns-3 c =
