@@ -4,3 +4,4 @@ pub mod Stores
 pub mod Varints
 pub mod Fields
 pub mod Messages
+pub mod Writers

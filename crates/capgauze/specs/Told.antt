@@ -4,6 +4,10 @@ use Rattle.wire.specs.Numbers.{numberOf, typeOf}
 use Rattle.wire.specs.Table.{kindWord, valueWord, lengthWord}
 use Rattle.wire.specs.declared.Read.{Read}
 use Rattle.wire.specs.declared.Read.the-variants as read
+use Rattle.wire.specs.declared.Written.{Written}
+use Rattle.wire.specs.declared.Written.the-variants as written
+use Rattle.wire.specs.declared.Inserted.{Inserted}
+use Rattle.wire.specs.declared.Inserted.the-variants as inserted
 use Rattle.capgauze.specs.declared.Put.{Put}
 use Rattle.capgauze.specs.declared.Put.the-variants as put
 use Rattle.capgauze.specs.declared.VarintRead.{VarintRead}
@@ -112,3 +116,18 @@ abbrev pub pickedTold : Picked → Pick
 pickedTold (picked.Found f) = record { number = 0; found = 1; type = kindWord (f .value); value = valueWord (f .value); length = lengthWord (f .value) }
 pickedTold picked.Absent = record { number = 0; found = 0; type = 0; value = 0; length = 0 }
 pickedTold (picked.Refused r) = record { number = numberOf r; found = 0; type = 0; value = 0; length = 0 }
+
+-- a message that was written: its start and its length
+pub record Wrote : Type 0 where
+  pub number : ℕ
+  pub start : ℕ
+  pub length : ℕ
+
+abbrev pub writtenTold : Written → Wrote
+writtenTold (written.At p n) = record { number = 0; start = p; length = n }
+writtenTold (written.Refused r p n) = record { number = numberOf r; start = p; length = n }
+
+-- insertion: the new count, or what the refusal carries
+abbrev pub insertedTold : Inserted → Number
+insertedTold (inserted.Count n) = record { number = 0; value = n }
+insertedTold (inserted.Refused r n) = record { number = numberOf r; value = n }

@@ -8,15 +8,19 @@ ghost use Rattle.wire.specs.Reading.{wireOf};
 ghost use Rattle.wire.specs.Signed.{toUnsigned, toSigned};
 ghost use Rattle.message.specs.Into.{Outcome};
 ghost use Rattle.capgauze.specs.Fields.{decodeKey, keyAtFront, keyAtEnd, keyLen, decodeValue, skipField, stepEntry};
+ghost use Rattle.wire.specs.Writing.{Writing};
+ghost use Rattle.wire.specs.Insertion.{Insertion};
 ghost use Rattle.capgauze.specs.Gate.{gated};
 ghost use Rattle.capgauze.specs.Messages.{Part, partOf, readEntry, payloadPart, readPayload, pickEntry};
 ghost use Rattle.capgauze.specs.Stores.{Stored, atFront, atEnd};
 ghost use Rattle.capgauze.specs.Varints.{decodeVarint, decodeVarintCapped};
+ghost use Rattle.capgauze.specs.Writers.{encodeMessage, prependMessage, encodedLen, insertRecord};
 use message::Sought;
 use wire::Field;
 use wire::Key;
 use wire::KeyFound;
 use wire::Reached;
+use wire::Inserted;
 use wire::Read;
 use wire::Record;
 use wire::Refusal;
@@ -25,6 +29,7 @@ use wire::Value;
 use wire::ValueFound;
 use wire::VarintFound;
 use wire::WireType;
+use wire::Written;
 
 // Whether a reader may read at all.
 pub enum Gated {
@@ -324,4 +329,37 @@ pub fn pick(s: &[u8], tag: u32) -> Picked
         Sought::Absent(_) => Picked::Absent,
         Sought::Refused(r) => Picked::Refused(r),
     }
+}
+
+// ---- tables written
+
+// The longest source and the longest message, as the cores take it.
+const LONGEST: u32 = wire::MESSAGE_LIMIT as u32;
+
+// The message of a table's first records, over the source that holds their payloads, at the buffer's front. A refusal leaves the buffer as it was.
+pub fn encode_message(source: &[u8], table: &[u64], count: usize, buf: &mut [u8]) -> Written
+    ensures { λ r. ⌜ record { answer = r; buf = now (buf .exit) } ≡ encodeMessage (now (source .entry)) (now (table .entry)) count (now (buf .entry)) ⌝ }
+{
+    writer::write_front(source, table, count, LONGEST, buf)
+}
+
+// The same at the buffer's end.
+pub fn prepend_message(source: &[u8], table: &[u64], count: usize, buf: &mut [u8]) -> Written
+    ensures { λ r. ⌜ record { answer = r; buf = now (buf .exit) } ≡ prependMessage (now (source .entry)) (now (table .entry)) count (now (buf .entry)) ⌝ }
+{
+    writer::write_back(source, table, count, LONGEST, buf)
+}
+
+// How long that message is.
+pub fn encoded_len_message(source: &[u8], table: &[u64], count: usize) -> Written
+    ensures { λ r. ⌜ r ≡ encodedLen (now (source .entry)) (now (table .entry)) count ⌝ }
+{
+    writer::measure(source, table, count, LONGEST)
+}
+
+// A new record behind all of a table's first records whose tag is equal or lower. A refusal leaves the table as it was.
+pub fn insert(source: &[u8], table: &mut [u64], count: usize, new: Record) -> Inserted
+    ensures { λ r. ⌜ record { answer = r; table = now (table .exit) } ≡ insertRecord (now (source .entry)) (now (table .entry)) count new ⌝ }
+{
+    insertion::insert_record(source, table, count, new, LONGEST)
 }

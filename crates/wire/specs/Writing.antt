@@ -49,19 +49,19 @@ fitted n (Refuses r i) = refused r i
 
 -- ---- what is left in a buffer: a refusal leaves it as it was
 
-pub record Outcome : Type 0 where
+pub record Writing : Type 0 where
   pub answer : Written
   pub buf : List ℕ
 
-abbrev pub into : List ℕ → Plan → (List ℕ → Outcome) → Outcome
+abbrev pub into : List ℕ → Plan → (List ℕ → Writing) → Writing
 into b (Writes bs) done = choose (leb (length bs) (length b)) (done bs) (record { answer = noRoom bs; buf = b })
 into b (Refuses r i) done = record { answer = refused r i; buf = b }
 
 -- The forward writer fills the buffer's front, the prepending one its end; all other bytes stay. Each answers the start and the length.
-unfoldable pub front : List ℕ → Plan → Outcome
+unfoldable pub front : List ℕ → Plan → Writing
 front b p = into b p (λ bs. record { answer = At 0 (length bs); buf = bs ++ drop (length bs) b })
 
-unfoldable pub back : List ℕ → Plan → Outcome
+unfoldable pub back : List ℕ → Plan → Writing
 back b p = into b p (λ bs. record { answer = At (length b - length bs) (length bs); buf = take (length b - length bs) b ++ bs })
 
 -- ---- how the bytes are counted: down from a budget, and not below 0

@@ -11,7 +11,7 @@ use Rattle.wire.specs.Choose.{choose}
 use Rattle.wire.specs.Table.{room, recordAt}
 use Rattle.wire.specs.Records.{tagBefore, Verdict, AllFine, First, tested, checked, message}
 use Rattle.wire.specs.RecordLaws.{Sound, good-sound, judge-fine, fine-at}
-use Rattle.wire.specs.Writing.{Plan, Writes, Refuses, passed, plan, refused, noRoom, measured, fitted, Outcome, into, spent}
+use Rattle.wire.specs.Writing.{Plan, Writes, Refuses, passed, plan, refused, noRoom, measured, fitted, Writing, into, spent}
 use Rattle.wire.specs.declared.Refusal.{Refusal}
 use Rattle.wire.specs.declared.Refusal.the-variants.{TooLong, BadRecord}
 use Rattle.wire.specs.declared.Weighed.{Weighed}
@@ -180,7 +180,7 @@ module _ (n : ℕ) (p : Plan) where
 
 -- ---- what is left
 
-module _ (b : List ℕ) (done : List ℕ → Outcome) where
+module _ (b : List ℕ) (done : List ℕ → Writing) where
   pub into-refuses : {p : Plan} {r : Refusal} {i : ℕ} → p ≡ Refuses r i → into b p done ≡ record { answer = refused r i; buf = b }
   into-refuses e = rw e
 

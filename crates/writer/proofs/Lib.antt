@@ -1,3 +1,4 @@
 pub mod Puts
 pub mod Turns
 pub mod Whole
+pub mod Only

@@ -5,7 +5,7 @@ use mathlib.Core.List.{List, _++_}
 use native.Mathlib.Omega.{arith}
 use lib.ListN.{length, take, drop}
 use Rattle.wire.specs.Records.{message}
-use Rattle.wire.specs.Writing.{Plan, Writes, plan, fitted, Outcome, into, front, back}
+use Rattle.wire.specs.Writing.{Plan, Writes, plan, fitted, Writing, into, front, back}
 use Rattle.wire.specs.WritingLaws.{Ready, plan-writes, into-writes, fitted-at}
 use Rattle.wire.specs.declared.Written.{Written}
 use Rattle.wire.specs.declared.Written.the-variants.{At, Refused}
@@ -25,7 +25,7 @@ module _ (b : List ℕ) (most : ℕ) (s t : List ℕ) (c : ℕ) {w : Written} (e
   pub roomy : Ready s t c × (length (message s t c) ≤ length b)
   roomy = (writes .0, omega (arith, size, planned .3))
 
-  done : (at : List ℕ → Outcome) → into b (plan most s t c) at ≡ at (message s t c)
+  done : (at : List ℕ → Writing) → into b (plan most s t c) at ≡ at (message s t c)
   done at = into-writes b at (planned .1 ∙ ap Writes (writes .1)) (roomy .1)
 
   pub front-done : {n : ℕ} {d : List ℕ} → Spans b 0 n (message s t c) d → record { answer = At 0 n; buf = d } ≡ front b (plan most s t c)

@@ -8,7 +8,7 @@ ghost use Rattle.wire.specs.Varint.{encode};
 ghost use Rattle.wire.specs.Table.{room, recordAt};
 ghost use Rattle.wire.specs.Records.{tagBefore, checked, valueBytes, recordBytes, message};
 ghost use Rattle.wire.specs.RecordLaws.{Sound};
-ghost use Rattle.wire.specs.Writing.{plan, measured, fitted, spent, Outcome, front, back};
+ghost use Rattle.wire.specs.Writing.{plan, measured, fitted, spent, Writing, front, back};
 ghost use Rattle.wire.specs.WritingLaws.{Ready};
 use wire::RECORD_WORDS;
 use wire::Record;

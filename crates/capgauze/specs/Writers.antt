@@ -1,0 +1,22 @@
+-- The entries that write tables, measure them and insert into them: what each answers, and what it leaves.
+use Prim.Native.Nat.{ℕ}
+use mathlib.Core.List.{List}
+use Rattle.wire.specs.Limits.{messageLimit}
+use Rattle.wire.specs.Writing.{plan, measured, Writing, front, back}
+use Rattle.wire.specs.Insertion.{aim, Insertion, inserts}
+use Rattle.wire.specs.declared.Record.{Record}
+use Rattle.wire.specs.declared.Written.{Written}
+
+-- of a source, a table, a count and a buffer: the message at the buffer's front, at its end, or its length alone
+abbrev pub encodeMessage : List ℕ → List ℕ → ℕ → List ℕ → Writing
+encodeMessage s t c b = front b (plan messageLimit s t c)
+
+abbrev pub prependMessage : List ℕ → List ℕ → ℕ → List ℕ → Writing
+prependMessage s t c b = back b (plan messageLimit s t c)
+
+abbrev pub encodedLen : List ℕ → List ℕ → ℕ → Written
+encodedLen s t c = measured (plan messageLimit s t c)
+
+-- of a source, a table, a count and a new record: the record in its place
+abbrev pub insertRecord : List ℕ → List ℕ → ℕ → Record → Insertion
+insertRecord s t c r = inserts t c r (aim messageLimit s t c r)
