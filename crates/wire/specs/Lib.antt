@@ -27,3 +27,4 @@ pub mod Writing
 pub mod WritingLaws
 pub mod Insertion
 pub mod InsertionLaws
+pub mod WritingCases
