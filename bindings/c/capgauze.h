@@ -1,0 +1,164 @@
+/* Capgauze: a proved reader and writer of Bilrost messages, for C.
+ *
+ * Link target/staticlib/libcapgauze_c.a, which `rt staticlib capgauze_c` proves and writes (x86-64 Linux).
+ *
+ * Every answer that can be refused is a struct whose first word is a number of the table below; the other words are
+ * what is said at each function, and 0 where nothing is said. A refused call leaves all lent memory as it was.
+ *
+ * What a caller must keep: a pointer is never null, also where its length is 0; it points to as many elements as its
+ * length says; memory that is written (a table, a buffer) overlaps nothing else that is lent in the same call. Nothing
+ * else is asked: any bytes, numbers, places, ends, tables and counts are answered.
+ *
+ * Places, starts and ends count bytes from the slice's first. An end is a place too, not a length.
+ */
+#ifndef CAPGAUZE_H
+#define CAPGAUZE_H
+
+#include <stddef.h>
+#include <stdint.h>
+
+#ifdef __cplusplus
+extern "C" {
+#endif
+
+/* The longest slice that is read, and the longest message that is written. */
+#define CAPGAUZE_LIMIT 65535
+/* The words of a record; a table of `words` words has room for words / CAPGAUZE_RECORD_WORDS records. */
+#define CAPGAUZE_RECORD_WORDS 4
+
+/* The number of an answer. */
+enum {
+    CAPGAUZE_ACCEPTED = 0,
+    CAPGAUZE_TRUNCATED = 1,      /* the slice or the end came too soon */
+    CAPGAUZE_INVALID_VARINT = 2, /* a varint of 2^64 or more */
+    CAPGAUZE_TAG_OVERFLOWED = 3, /* a tag, or a rise of tags, above 4,294,967,295 */
+    CAPGAUZE_TOO_LONG = 4,       /* slice, or bytes to be written, above CAPGAUZE_LIMIT */
+    CAPGAUZE_NO_ROOM = 5,        /* a good message with more fields than the table has room, a buffer too short for
+                                    what is to be written, an insertion into a full table */
+    CAPGAUZE_BAD_RECORD = 6,     /* a record that is not good, a count above the room, a wire type above 3 */
+    CAPGAUZE_OUT_OF_ORDER = 7,   /* a tag below the one before it */
+    CAPGAUZE_BAD_CAP = 8         /* a place, start or end above the slice's length */
+};
+
+/* The four wire types. */
+enum {
+    CAPGAUZE_VARINT = 0,
+    CAPGAUZE_LENGTH_DELIMITED = 1,
+    CAPGAUZE_THIRTY_TWO_BIT = 2,
+    CAPGAUZE_SIXTY_FOUR_BIT = 3
+};
+
+/* A record is four words of a table:
+ *   tag, wire type, value (or the payload's start in the slice), length (0, the payload's length, 4, 8).
+ * It is good for a source if the tag is at most 4,294,967,295, the type at most 3, the length word the right one, a
+ * ThirtyTwoBit value below 2^32, and a payload inside the source. */
+
+typedef struct { uint64_t number, value; } capgauze_number; /* a length or a count */
+typedef struct { uint64_t number, value, place; } capgauze_varint;
+typedef struct { uint64_t number, place; } capgauze_place;
+typedef struct { uint64_t number, tag, type, place; } capgauze_key;
+typedef struct { uint64_t number, value, length, place; } capgauze_value;
+typedef struct { uint64_t number, found, tag, type, value, length, place; } capgauze_step;
+typedef struct { uint64_t number, place, count; } capgauze_read;
+typedef struct { uint64_t number, start, length; } capgauze_written;
+typedef struct { uint64_t number, found, type, value, length; } capgauze_picked;
+typedef struct { uint64_t start, length; } capgauze_part;
+
+/* ---- Numbers ---- */
+
+/* How many bytes the varint of v takes: 1 to 9. */
+uint64_t capgauze_encoded_len_varint(uint64_t v);
+
+/* The signed mapping: v >= 0 gives 2v, v < 0 gives -2v - 1. And back. */
+uint64_t capgauze_i64_to_unsigned(int64_t v);
+int64_t capgauze_u64_to_signed(uint64_t u);
+
+/* ---- One part of a message ----
+ * Refusals in order: 4, 8, then 1 to 3 as met. A refused reader answers the place it was given, and 0 as value. */
+
+/* The varint at `at`: its value and the place after it. */
+capgauze_varint capgauze_decode_varint(const uint8_t *s, size_t s_len, size_t at);
+
+/* The same under an end. It is read beyond the end too; one that is invalid and whose nine bytes pass the end is
+ * refused as Truncated. The place after it may lie past the end. */
+capgauze_varint capgauze_decode_varint_capped(const uint8_t *s, size_t s_len, size_t at, size_t end);
+
+/* The key at `at`, after the tag `last` (0 at a message's start): tag, wire type and the place after it, which may lie
+ * past the end. Refused: tag is `last`, type 0. */
+capgauze_key capgauze_decode_key(const uint8_t *s, size_t s_len, size_t at, size_t end, uint32_t last);
+
+/* The value of that wire type at `at`: a record's last two words and the place after it. Refused: value, length 0. A
+ * type above 3 is refused as BadRecord before anything else. */
+capgauze_value capgauze_decode_value(const uint8_t *s, size_t s_len, size_t at, size_t end, uint64_t type);
+
+/* Passes over the value of that wire type at `at`, and over the fields of the same tag that follow it: the place
+ * reached, which may lie past the end. A type above 3 as above. */
+capgauze_place capgauze_skip_field(const uint8_t *s, size_t s_len, size_t at, size_t end, uint64_t type);
+
+/* One step of a message, from a field's first byte `at` with `last` as the tag before it. A field: found is 1, then
+ * its record and the place after it, which may lie past the end. At the end: found is 0, tag is `last`, place is `at`;
+ * refused, too. */
+capgauze_step capgauze_step_at(const uint8_t *s, size_t s_len, size_t at, size_t end, uint32_t last);
+
+/* ---- Whole messages ---- */
+
+/* Reads the message from start up to end into the table. Accepted: place is the end, count the number of fields, and
+ * the table's first words are their records; the words behind them stay. Refused: the table stays as it was. NoRoom: place
+ * 0, count is the number of fields that need room. TooLong, BadCap: 0, 0. Truncated, InvalidVarint, TagOverflowed: the
+ * place of the first byte of the field being read, or of the last field read if that one passed the end (the start, if
+ * no field was read); count 0. */
+capgauze_read capgauze_read_message(const uint8_t *s, size_t s_len, size_t start, size_t end, uint64_t *table,
+                                    size_t words);
+
+/* Where the payload of a record lies in s, which may be of any length: its start and length. A record that is not a
+ * good LengthDelimited one of s has none: 0, 0. */
+capgauze_part capgauze_payload_of(const uint8_t *s, size_t s_len, uint64_t tag, uint64_t type, uint64_t value,
+                                  uint64_t length);
+
+/* Reads a record's payload as a message in itself. Places and payload starts count from the payload's first byte, and
+ * TooLong is for the payload and not for s. A record without a payload is the empty message: 0, 0, 0. */
+capgauze_read capgauze_read_payload(const uint8_t *s, size_t s_len, uint64_t tag, uint64_t type, uint64_t value,
+                                    uint64_t length, uint64_t *table, size_t words);
+
+/* Reads the whole message and answers the first field of the tag: found is 1, and type, value, length are its record's.
+ * Absent: found is 0. Refused: the number alone. */
+capgauze_picked capgauze_pick(const uint8_t *s, size_t s_len, uint32_t tag);
+
+/* ---- Writing ----
+ * Of one part: the bytes go to the buffer's front (encode) or its end (prepend), all other bytes stay; value is their
+ * number. Refused: value 0. */
+
+/* NoRoom. */
+capgauze_number capgauze_encode_varint(uint64_t v, uint8_t *buf, size_t buf_len);
+capgauze_number capgauze_prepend_varint(uint64_t v, uint8_t *buf, size_t buf_len);
+
+/* The key of `tag` after the tag `last`. BadRecord for a type above 3, OutOfOrder, NoRoom. */
+capgauze_number capgauze_encode_key(uint32_t last, uint32_t tag, uint64_t type, uint8_t *buf, size_t buf_len);
+capgauze_number capgauze_prepend_key(uint32_t last, uint32_t tag, uint64_t type, uint8_t *buf, size_t buf_len);
+
+/* Its length, which is the same for every type. OutOfOrder. */
+capgauze_number capgauze_key_len(uint32_t last, uint32_t tag);
+
+/* The first `count` records of the table as a message, payloads taken from the source. Accepted: where it starts in
+ * the buffer, and its length; encode fills the front, prepend the end, all other bytes stay; measuring writes nothing and
+ * answers start 0. Refusals in order: TooLong for the source; BadRecord with the room as start, if the count is above it;
+ * from the first record on BadRecord, then OutOfOrder, with the record's index as start; TooLong for the output; NoRoom
+ * (not for measuring). Length 0 with each, and start 0 with TooLong and NoRoom. */
+capgauze_written capgauze_encode_message(const uint8_t *source, size_t source_len, const uint64_t *table, size_t words,
+                                         size_t count, uint8_t *buf, size_t buf_len);
+capgauze_written capgauze_prepend_message(const uint8_t *source, size_t source_len, const uint64_t *table, size_t words,
+                                          size_t count, uint8_t *buf, size_t buf_len);
+capgauze_written capgauze_encoded_len_message(const uint8_t *source, size_t source_len, const uint64_t *table,
+                                              size_t words, size_t count);
+
+/* Puts a record behind all of equal or lower tag among the table's first `count`; later ones move up one. Value is the
+ * new count. Refusals in order: TooLong for the source (value 0); BadRecord with the room, if the count is above it; from
+ * the first record on BadRecord, then OutOfOrder, with the index; BadRecord with the count for the new record; NoRoom
+ * (value 0) if the count equals the room. */
+capgauze_number capgauze_insert(const uint8_t *source, size_t source_len, uint64_t *table, size_t words, size_t count,
+                                uint64_t tag, uint64_t type, uint64_t value, uint64_t length);
+
+#ifdef __cplusplus
+}
+#endif
+#endif

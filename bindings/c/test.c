@@ -1,0 +1,180 @@
+/* Calls every entry through the header, most with document 01's own cases. Whatever is lent ends at the edge of a page
+ * that may not be touched. run.sh compiles it and runs it. */
+#include "capgauze.h"
+#include <stdio.h>
+#include <stdlib.h>
+#include <string.h>
+#include <sys/mman.h>
+#include <unistd.h>
+
+static int calls, failures;
+
+/* An answer is compared word by word, and must have no word more. */
+static void same(int line, const char *call, const void *got, size_t got_size, const uint64_t *want, size_t want_size) {
+    calls++;
+    if (got_size == want_size && !memcmp(got, want, got_size)) return;
+    failures++;
+    printf("test.c:%d: %s answered", line, call);
+    for (size_t i = 0; i < got_size / 8; i++) printf(" %llu", ((const unsigned long long *)got)[i]);
+    printf("\n");
+}
+#define SAME(call, ...)                                                  \
+    do {                                                                 \
+        const __typeof__(call) got = call;                               \
+        const uint64_t want[] = {__VA_ARGS__};                           \
+        same(__LINE__, #call, &got, sizeof got, want, sizeof want);      \
+    } while (0)
+
+/* Memory that ends where the page behind it is shut: one byte more, and the program dies. */
+static void *lend(size_t size) {
+    size_t page = sysconf(_SC_PAGESIZE), all = (size + page - 1) / page * page;
+    uint8_t *p = mmap(0, all + page, PROT_READ | PROT_WRITE, MAP_PRIVATE | MAP_ANONYMOUS, -1, 0);
+    if (p == MAP_FAILED || mprotect(p + all, page, PROT_NONE)) exit(2);
+    return p + all - size;
+}
+
+static uint8_t *bytes; /* the slice that is lent next */
+static size_t len;
+static void use(const char *hex) {
+    len = strlen(hex) / 2;
+    bytes = lend(len);
+    for (size_t i = 0; i < len; i++) sscanf(hex + 2 * i, "%2hhx", bytes + i);
+}
+#define S bytes, len
+
+static uint64_t *table;
+static size_t words;
+static void lay(size_t n, const uint64_t *from) {
+    words = n;
+    table = lend(8 * n);
+    for (size_t i = 0; i < n; i++) table[i] = from ? from[i] : 77;
+}
+#define TABLE table, words
+static void table_is(int line, const uint64_t *want, size_t size) { same(line, "table", table, 8 * words, want, size); }
+#define TABLE_IS(...) table_is(__LINE__, (const uint64_t[]){__VA_ARGS__}, sizeof(const uint64_t[]){__VA_ARGS__})
+
+static uint8_t *buf;
+static size_t buf_len;
+static void room(size_t n) { buf = memset(lend(n), 0xA5, n), buf_len = n; }
+#define BUF buf, buf_len
+static void buf_is(int line, const char *want) {
+    char got[256] = "";
+    for (size_t i = 0; i < buf_len; i++) sprintf(got + 2 * i, "%02X", buf[i]);
+    calls++;
+    if (strcmp(got, want)) failures++, printf("test.c:%d: the buffer is %s, not %s\n", line, got, want);
+}
+#define BUF_IS(want) buf_is(__LINE__, want)
+
+static void numbers(void) {
+    SAME(capgauze_encoded_len_varint(127), 1);
+    SAME(capgauze_encoded_len_varint(128), 2);
+    SAME(capgauze_encoded_len_varint(UINT64_MAX), 9);
+    SAME(capgauze_i64_to_unsigned(-1), 1);
+    SAME(capgauze_i64_to_unsigned(INT64_MIN), UINT64_MAX);
+    SAME((uint64_t)capgauze_u64_to_signed(1), (uint64_t)-1);
+    SAME((uint64_t)capgauze_u64_to_signed(UINT64_MAX), (uint64_t)INT64_MIN);
+}
+
+static void parts(void) {
+    use("");
+    SAME(capgauze_decode_varint(S, 0), 1, 0, 0);
+    SAME(capgauze_decode_varint(S, 1), 8, 0, 1);
+    use("8000");
+    SAME(capgauze_decode_varint(S, 0), 0, 128, 2);
+    SAME(capgauze_decode_varint_capped(S, 0, 1), 0, 128, 2);
+    use("80FFFEFEFEFEFEFEFE");
+    SAME(capgauze_decode_varint(S, 0), 2, 0, 0);
+    SAME(capgauze_decode_varint_capped(S, 0, 8), 1, 0, 0);
+    use("FCFEFEFE3E");
+    SAME(capgauze_decode_key(S, 0, 5, 0), 0, 4294967295, 0, 5);
+    SAME(capgauze_decode_key(S, 0, 5, 1), 3, 1, 0, 0);
+    SAME(capgauze_decode_key(S, 0, 6, 9), 8, 9, 0, 0);
+    use("02AABB05");
+    SAME(capgauze_decode_value(S, 0, 4, CAPGAUZE_LENGTH_DELIMITED), 0, 1, 2, 3);
+    SAME(capgauze_decode_value(S, 0, 4, CAPGAUZE_THIRTY_TWO_BIT), 0, 0x05BBAA02, 4, 4);
+    SAME(capgauze_decode_value(S, 1, 4, CAPGAUZE_THIRTY_TWO_BIT), 1, 0, 0, 1);
+    SAME(capgauze_decode_value(S, 9, 9, 4), 6, 0, 0, 9); /* no wire type: before anything else */
+    use("0500060407");
+    SAME(capgauze_skip_field(S, 0, 5, CAPGAUZE_VARINT), 0, 3);
+    SAME(capgauze_skip_field(S, 0, 6, CAPGAUZE_VARINT), 8, 0);
+    SAME(capgauze_skip_field(S, 3, 5, UINT64_MAX), 6, 3);
+    use("008000");
+    SAME(capgauze_step_at(S, 0, 2, 7), 0, 1, 7, 0, 128, 0, 3);
+    SAME(capgauze_step_at(S, 2, 2, 7), 0, 0, 7, 0, 0, 0, 2);
+    SAME(capgauze_step_at(S, 3, 2, 7), 1, 0, 7, 0, 0, 0, 3);
+}
+
+static void messages(void) {
+    use("04FFFEFEFEFEFEFEFEFE0902C0DE0201000000");
+    lay(13, 0);
+    SAME(capgauze_read_message(S, 0, len, TABLE), 0, 19, 3);
+    TABLE_IS(1, 0, UINT64_MAX, 0, 3, 1, 12, 2, 3, 2, 1, 4, 77);
+    lay(11, 0);
+    SAME(capgauze_read_message(S, 0, len, TABLE), 5, 0, 3);
+    SAME(capgauze_read_message(S, 0, 18, TABLE), 1, 14, 0);
+    SAME(capgauze_read_message(S, 0, 20, TABLE), 8, 0, 0);
+    TABLE_IS(77, 77, 77, 77, 77, 77, 77, 77, 77, 77, 77);
+    SAME(capgauze_pick(S, 3), 0, 1, 1, 12, 2);
+    SAME(capgauze_pick(S, 2), 0, 0, 0, 0, 0);
+    use("0000050504000100");
+    SAME(capgauze_payload_of(S, 0, 1, 4, 3), 4, 3);
+    SAME(capgauze_payload_of(S, 0, 0, 4, 0), 0, 0);
+    SAME(capgauze_payload_of(S, 0, 1, UINT64_MAX, 2), 0, 0);
+    lay(4, 0);
+    SAME(capgauze_read_payload(S, 0, 1, 4, 2, TABLE), 0, 2, 1); /* 04 00 */
+    TABLE_IS(1, 0, 0, 0);
+    SAME(capgauze_read_payload(S, 0, 1, 4, 3, TABLE), 1, 2, 0); /* and 01 */
+    SAME(capgauze_read_payload(S, 0, 0, 4, 0, TABLE), 0, 0, 0);
+    len = CAPGAUZE_LIMIT + 1;
+    bytes = lend(len);
+    SAME(capgauze_read_message(S, 0, 0, TABLE), 4, 0, 0);
+    SAME(capgauze_pick(S, 0), 4, 0, 0, 0, 0);
+    SAME(capgauze_payload_of(S, 0, 1, 0, len), 0, len);
+}
+
+static void writing(void) {
+    room(3);
+    SAME(capgauze_encode_varint(128, BUF), 0, 2);
+    BUF_IS("8000A5");
+    SAME(capgauze_prepend_varint(5, BUF), 0, 1);
+    BUF_IS("800005");
+    SAME(capgauze_encode_varint(UINT64_MAX, BUF), 5, 0);
+    SAME(capgauze_prepend_key(2, 3, CAPGAUZE_SIXTY_FOUR_BIT, BUF), 0, 1);
+    BUF_IS("800007");
+    SAME(capgauze_encode_key(3, 2, CAPGAUZE_VARINT, BUF), 7, 0);
+    SAME(capgauze_encode_key(3, 2, 4, BUF), 6, 0);
+    BUF_IS("800007");
+    SAME(capgauze_key_len(0, 31), 0, 1);
+    SAME(capgauze_key_len(0, 32), 0, 2);
+    SAME(capgauze_key_len(1, 0), 7, 0);
+
+    use("C0DE");
+    lay(13, (const uint64_t[]){1, 0, UINT64_MAX, 0, 3, 1, 0, 2, 3, 2, 1, 4, 77});
+    room(21);
+    SAME(capgauze_encoded_len_message(S, TABLE, 3), 0, 0, 19);
+    SAME(capgauze_prepend_message(S, TABLE, 3, BUF), 0, 2, 19);
+    BUF_IS("A5A504FFFEFEFEFEFEFEFEFE0902C0DE0201000000");
+    room(18);
+    SAME(capgauze_encode_message(S, TABLE, 3, BUF), 5, 0, 0);
+    SAME(capgauze_encode_message(S, TABLE, 4, BUF), 6, 3, 0);
+    SAME(capgauze_prepend_message(S, TABLE, 0, BUF), 0, 18, 0);
+    SAME(capgauze_encode_message(S, TABLE, 2, BUF), 0, 0, 14);
+    BUF_IS("04FFFEFEFEFEFEFEFEFE0902C0DEA5A5A5A5");
+
+    lay(9, (const uint64_t[]){1, 0, 5, 0, 77, 77, 77, 77, 77});
+    SAME(capgauze_insert(S, TABLE, 1, 0, 1, 0, 2), 0, 2);
+    TABLE_IS(0, 1, 0, 2, 1, 0, 5, 0, 77);
+    SAME(capgauze_insert(S, TABLE, 2, 0, 1, 0, 2), 5, 0);
+    SAME(capgauze_insert(S, TABLE, 2, 0, 1, 0, 3), 6, 2);
+    SAME(capgauze_insert(S, TABLE, 3, 0, 0, 0, 0), 6, 2);
+    TABLE_IS(0, 1, 0, 2, 1, 0, 5, 0, 77);
+}
+
+int main(void) {
+    numbers();
+    parts();
+    messages();
+    writing();
+    printf("%d answers, %d differ\n", calls, failures);
+    return failures != 0;
+}
