@@ -1,0 +1,51 @@
+//! The C interface, as bindings/c/capgauze.h has it.
+
+macro_rules! answers {
+    ($($name:ident { $($word:ident),* })*) => { $(
+        #[repr(C)]
+        pub struct $name { $(pub $word: u64),* }
+    )* };
+}
+
+answers! {
+    Number { number, value }
+    Varint { number, value, place }
+    Place { number, place }
+    Key { number, tag, kind, place }
+    Value { number, value, length, place }
+    Step { number, found, tag, kind, value, length, place }
+    Read { number, place, count }
+    Written { number, start, length }
+    Picked { number, found, kind, value, length }
+    Part { start, length }
+}
+
+pub type Writer =
+    unsafe extern "C" fn(*const u8, usize, *const u64, usize, usize, *mut u8, usize) -> Written;
+
+// A slice passes as a pointer and a length in elements.
+#[rustfmt::skip]
+extern "C" {
+    pub fn capgauze_encoded_len_varint(v: u64) -> u64;
+    pub fn capgauze_i64_to_unsigned(v: i64) -> u64;
+    pub fn capgauze_u64_to_signed(u: u64) -> i64;
+    pub fn capgauze_decode_varint(s: *const u8, len: usize, at: usize) -> Varint;
+    pub fn capgauze_decode_varint_capped(s: *const u8, len: usize, at: usize, end: usize) -> Varint;
+    pub fn capgauze_encode_varint(v: u64, buf: *mut u8, len: usize) -> Number;
+    pub fn capgauze_prepend_varint(v: u64, buf: *mut u8, len: usize) -> Number;
+    pub fn capgauze_decode_key(s: *const u8, len: usize, at: usize, end: usize, last: u32) -> Key;
+    pub fn capgauze_encode_key(last: u32, tag: u32, kind: u64, buf: *mut u8, len: usize) -> Number;
+    pub fn capgauze_prepend_key(last: u32, tag: u32, kind: u64, buf: *mut u8, len: usize) -> Number;
+    pub fn capgauze_key_len(last: u32, tag: u32) -> Number;
+    pub fn capgauze_decode_value(s: *const u8, len: usize, at: usize, end: usize, kind: u64) -> Value;
+    pub fn capgauze_skip_field(s: *const u8, len: usize, at: usize, end: usize, kind: u64) -> Place;
+    pub fn capgauze_step_at(s: *const u8, len: usize, at: usize, end: usize, last: u32) -> Step;
+    pub fn capgauze_read_message(s: *const u8, len: usize, start: usize, end: usize, table: *mut u64, words: usize) -> Read;
+    pub fn capgauze_payload_of(s: *const u8, len: usize, tag: u64, kind: u64, value: u64, length: u64) -> Part;
+    pub fn capgauze_read_payload(s: *const u8, len: usize, tag: u64, kind: u64, value: u64, length: u64, table: *mut u64, words: usize) -> Read;
+    pub fn capgauze_encode_message(source: *const u8, len: usize, table: *const u64, words: usize, count: usize, buf: *mut u8, buf_len: usize) -> Written;
+    pub fn capgauze_prepend_message(source: *const u8, len: usize, table: *const u64, words: usize, count: usize, buf: *mut u8, buf_len: usize) -> Written;
+    pub fn capgauze_encoded_len_message(source: *const u8, len: usize, table: *const u64, words: usize, count: usize) -> Written;
+    pub fn capgauze_insert(source: *const u8, len: usize, table: *mut u64, words: usize, count: usize, tag: u64, kind: u64, value: u64, length: u64) -> Number;
+    pub fn capgauze_pick(s: *const u8, len: usize, tag: u32) -> Picked;
+}

@@ -1,0 +1,528 @@
+//! Capgauze: a proved reader and writer of Bilrost messages.
+//!
+//! Every function here calls one entry of the static library that `rt staticlib capgauze_c` proves and writes (x86-64
+//! Linux); the types only put names on its numbers. No wrapper refuses anything itself. A refused call leaves all that
+//! it was lent as it was. Nothing is allocated, and nothing panics.
+//!
+//! A message is read into a table, four words a record ([`Record`]); records are written from one. Payloads are parts of
+//! the message, not copies. Half as many records as a message has bytes always suffice.
+//!
+//! ```
+//! use capgauze::{read_message, payload_of, Record, Value};
+//!
+//! let message = [0x04, 0xFF, 0xFE, 0xFE, 0xFE, 0xFE, 0xFE, 0xFE, 0xFE, 0xFE, 0x09, 0x02, 0xC0, 0xDE];
+//! let mut table = [0; 4 * 7];
+//! let read = read_message(&message, 0, message.len(), &mut table)?;
+//! assert_eq!(read.count, 2);
+//!
+//! let launch = Record::at(&table, 0).unwrap();
+//! assert_eq!(launch.field().unwrap().value, Value::Varint(u64::MAX));
+//! let level = Record::at(&table, 1).unwrap();
+//! assert_eq!((level.tag, payload_of(&message, level)), (3, &[0xC0, 0xDE][..]));
+//! # Ok::<(), capgauze::RefusedRead>(())
+//! ```
+#![no_std]
+
+// Why each `unsafe` call is right: a pointer and a length come from one slice, so they are never null and span live
+// memory; what is lent to be written is a `&mut` slice, so it overlaps nothing else. The library asks nothing else.
+
+mod ffi;
+mod types;
+
+pub use types::*;
+
+/// The longest slice that is read, and the longest message that is written.
+pub const LIMIT: usize = 65_535;
+
+#[cfg(not(target_pointer_width = "64"))]
+compile_error!("capgauze is for 64-bit lengths");
+
+// ---- Words to names ----
+
+/// `Ok` of an accepted answer, or its refusal. The library's numbers are those of [`Refusal`].
+fn accepted(number: u64) -> Result<(), Refusal> {
+    use Refusal::*;
+    const ALL: [Refusal; 8] =
+        [Truncated, InvalidVarint, TagOverflowed, TooLong, NoRoom, BadRecord, OutOfOrder, BadCap];
+    match number {
+        0 => Ok(()),
+        _ => Err(ALL[number as usize - 1]),
+    }
+}
+
+fn length(answer: ffi::Number) -> Result<usize, Refusal> {
+    accepted(answer.number).map(|()| answer.value as usize)
+}
+
+fn wire_type(number: u64) -> WireType {
+    use WireType::*;
+    [Varint, LengthDelimited, ThirtyTwoBit, SixtyFourBit][number as usize]
+}
+
+fn value(kind: u64, value: u64, length: u64) -> Value {
+    match wire_type(kind) {
+        WireType::Varint => Value::Varint(value),
+        WireType::LengthDelimited => {
+            Value::LengthDelimited { start: value as usize, length: length as usize }
+        }
+        WireType::ThirtyTwoBit => Value::ThirtyTwoBit(value as u32),
+        WireType::SixtyFourBit => Value::SixtyFourBit(value),
+    }
+}
+
+fn varint(answer: ffi::Varint) -> Result<Decoded<u64>, RefusedAt> {
+    let place = answer.place as usize;
+    match accepted(answer.number) {
+        Ok(()) => Ok(Decoded { value: answer.value, next: place }),
+        Err(refusal) => Err(RefusedAt { refusal, place }),
+    }
+}
+
+fn read(answer: ffi::Read) -> Result<Read, RefusedRead> {
+    let (place, count) = (answer.place as usize, answer.count as usize);
+    match accepted(answer.number) {
+        Ok(()) => Ok(Read { place, count }),
+        Err(refusal) => Err(RefusedRead { refusal, place, count }),
+    }
+}
+
+/// One of the two writers, which are called alike.
+fn write_by(
+    writer: ffi::Writer,
+    source: &[u8],
+    table: &[u64],
+    count: usize,
+    buf: &mut [u8],
+) -> Result<Written, RefusedWrite> {
+    let (s, len, from, words) = (source.as_ptr(), source.len(), table.as_ptr(), table.len());
+    written(unsafe { writer(s, len, from, words, count, buf.as_mut_ptr(), buf.len()) })
+}
+
+fn written(answer: ffi::Written) -> Result<Written, RefusedWrite> {
+    let (start, length) = (answer.start as usize, answer.length as usize);
+    match accepted(answer.number) {
+        Ok(()) => Ok(Written { start, length }),
+        Err(refusal) => Err(RefusedWrite { refusal, index: start, length }),
+    }
+}
+
+// ---- Numbers ----
+
+/// How many bytes the varint of a number takes: 1 to 9.
+///
+/// ```
+/// # use capgauze::encoded_len_varint;
+/// assert_eq!([127, 128, u64::MAX].map(encoded_len_varint), [1, 2, 9]);
+/// ```
+pub fn encoded_len_varint(v: u64) -> usize {
+    unsafe { ffi::capgauze_encoded_len_varint(v) as usize }
+}
+
+/// The signed mapping: v ≥ 0 gives 2v, v < 0 gives −2v − 1.
+///
+/// ```
+/// # use capgauze::i64_to_unsigned;
+/// assert_eq!([0, -1, 1, i64::MIN].map(i64_to_unsigned), [0, 1, 2, u64::MAX]);
+/// ```
+pub fn i64_to_unsigned(v: i64) -> u64 {
+    unsafe { ffi::capgauze_i64_to_unsigned(v) }
+}
+
+/// The signed mapping back.
+///
+/// ```
+/// # use capgauze::u64_to_signed;
+/// assert_eq!([0, 1, 2, u64::MAX].map(u64_to_signed), [0, -1, 1, i64::MIN]);
+/// ```
+pub fn u64_to_signed(u: u64) -> i64 {
+    unsafe { ffi::capgauze_u64_to_signed(u) }
+}
+
+// ---- One part of a message ----
+
+/// The varint at a place. Refusals: TooLong, BadCap, Truncated, InvalidVarint.
+///
+/// ```
+/// # use capgauze::{decode_varint, Decoded, Refusal, RefusedAt};
+/// assert_eq!(decode_varint(&[0x80, 0x00], 0), Ok(Decoded { value: 128, next: 2 }));
+/// assert_eq!(decode_varint(&[0x80], 0), Err(RefusedAt { refusal: Refusal::Truncated, place: 0 }));
+/// ```
+pub fn decode_varint(s: &[u8], at: usize) -> Result<Decoded<u64>, RefusedAt> {
+    varint(unsafe { ffi::capgauze_decode_varint(s.as_ptr(), s.len(), at) })
+}
+
+/// The varint at a place, under an end. It is read beyond the end too; one that is invalid and whose nine bytes pass the
+/// end is Truncated. The place after it may lie past the end.
+///
+/// ```
+/// # use capgauze::{decode_varint_capped, Decoded};
+/// assert_eq!(decode_varint_capped(&[0x80, 0x00], 0, 1), Ok(Decoded { value: 128, next: 2 }));
+/// ```
+pub fn decode_varint_capped(s: &[u8], at: usize, end: usize) -> Result<Decoded<u64>, RefusedAt> {
+    varint(unsafe { ffi::capgauze_decode_varint_capped(s.as_ptr(), s.len(), at, end) })
+}
+
+/// The key at a place, after the tag `last` (0 at a message's start). Refusals: TooLong, BadCap, Truncated,
+/// InvalidVarint, TagOverflowed.
+///
+/// ```
+/// # use capgauze::{decode_key, Decoded, Key, WireType};
+/// let key = Key { tag: 5, wire_type: WireType::LengthDelimited };
+/// assert_eq!(decode_key(&[0x09], 0, 1, 3), Ok(Decoded { value: key, next: 1 }));
+/// ```
+pub fn decode_key(
+    s: &[u8],
+    at: usize,
+    end: usize,
+    last: u32,
+) -> Result<Decoded<Key>, RefusedAfter> {
+    let answer = unsafe { ffi::capgauze_decode_key(s.as_ptr(), s.len(), at, end, last) };
+    let (tag, place) = (answer.tag as u32, answer.place as usize);
+    match accepted(answer.number) {
+        Ok(()) => {
+            Ok(Decoded { value: Key { tag, wire_type: wire_type(answer.kind) }, next: place })
+        }
+        Err(refusal) => Err(RefusedAfter { refusal, place, last: tag }),
+    }
+}
+
+/// The value of a wire type at a place. Refusals: TooLong, BadCap, Truncated, InvalidVarint.
+///
+/// ```
+/// # use capgauze::{decode_value, Decoded, Value, WireType};
+/// let payload = Value::LengthDelimited { start: 1, length: 2 };
+/// assert_eq!(
+///     decode_value(&[2, 0xC0, 0xDE], 0, 3, WireType::LengthDelimited),
+///     Ok(Decoded { value: payload, next: 3 })
+/// );
+/// ```
+pub fn decode_value(
+    s: &[u8],
+    at: usize,
+    end: usize,
+    wire_type: WireType,
+) -> Result<Decoded<Value>, RefusedAt> {
+    let kind = wire_type as u64;
+    let answer = unsafe { ffi::capgauze_decode_value(s.as_ptr(), s.len(), at, end, kind) };
+    let place = answer.place as usize;
+    match accepted(answer.number) {
+        Ok(()) => Ok(Decoded { value: value(kind, answer.value, answer.length), next: place }),
+        Err(refusal) => Err(RefusedAt { refusal, place }),
+    }
+}
+
+/// Passes over the value of a wire type and the fields of the same tag behind it: the place reached, which may lie past
+/// the end. Refusals: TooLong, BadCap, Truncated, InvalidVarint.
+///
+/// ```
+/// # use capgauze::{skip_field, WireType};
+/// assert_eq!(skip_field(&[0x05, 0x00, 0x06, 0x04, 0x07], 0, 5, WireType::Varint), Ok(3));
+/// ```
+pub fn skip_field(
+    s: &[u8],
+    at: usize,
+    end: usize,
+    wire_type: WireType,
+) -> Result<usize, RefusedAt> {
+    let kind = wire_type as u64;
+    let answer = unsafe { ffi::capgauze_skip_field(s.as_ptr(), s.len(), at, end, kind) };
+    let place = answer.place as usize;
+    accepted(answer.number).map(|()| place).map_err(|refusal| RefusedAt { refusal, place })
+}
+
+/// One step of a message, from a field's first byte with the tag before it: a field, or `None` at the end. The place
+/// after a field may lie past the end; the next step is then Truncated.
+///
+/// ```
+/// # use capgauze::{step_at, Decoded, Field, Value};
+/// let field = Field { tag: 2, value: Value::Varint(7) };
+/// assert_eq!(step_at(&[0x04, 0x07], 0, 2, 1), Ok(Some(Decoded { value: field, next: 2 })));
+/// assert_eq!(step_at(&[0x04, 0x07], 2, 2, 2), Ok(None));
+/// ```
+pub fn step_at(
+    s: &[u8],
+    at: usize,
+    end: usize,
+    last: u32,
+) -> Result<Option<Decoded<Field>>, RefusedAfter> {
+    let answer = unsafe { ffi::capgauze_step_at(s.as_ptr(), s.len(), at, end, last) };
+    let (tag, place) = (answer.tag as u32, answer.place as usize);
+    match accepted(answer.number) {
+        Ok(()) if answer.found == 0 => Ok(None),
+        Ok(()) => {
+            let value = value(answer.kind, answer.value, answer.length);
+            Ok(Some(Decoded { value: Field { tag, value }, next: place }))
+        }
+        Err(refusal) => Err(RefusedAfter { refusal, place, last: tag }),
+    }
+}
+
+/// The fields of a message one by one, by [`step_at`]; a refusal is the last that comes.
+///
+/// ```
+/// # use capgauze::{fields, Value};
+/// let values: Result<Vec<_>, _> = fields(&[0x04, 0x07, 0x00, 0x08]).collect();
+/// assert_eq!(values?.last().unwrap().value, Value::Varint(8));
+/// assert!(fields(&[0x04]).next().unwrap().is_err());
+/// # Ok::<(), capgauze::RefusedAfter>(())
+/// ```
+pub fn fields(message: &[u8]) -> Fields<'_> {
+    Fields { message, place: 0, last: 0, over: false }
+}
+
+/// What [`fields`] gives.
+#[derive(Clone, Debug)]
+pub struct Fields<'a> {
+    message: &'a [u8],
+    place: usize,
+    last: u32,
+    over: bool,
+}
+
+impl Iterator for Fields<'_> {
+    type Item = Result<Field, RefusedAfter>;
+
+    fn next(&mut self) -> Option<Self::Item> {
+        if self.over {
+            return None;
+        }
+        let step = step_at(self.message, self.place, self.message.len(), self.last);
+        if let Ok(Some(Decoded { value, next })) = step {
+            self.place = next;
+            self.last = value.tag;
+            return Some(Ok(value));
+        }
+        self.over = true;
+        step.err().map(Err)
+    }
+}
+
+// ---- Whole messages ----
+
+/// Reads the message from a start up to an end into a table. Refusals in order: TooLong, BadCap; Truncated,
+/// InvalidVarint, TagOverflowed as met; NoRoom.
+///
+/// ```
+/// # use capgauze::{read_message, Read, Refusal};
+/// let mut table = [77; 5];
+/// assert_eq!(read_message(&[0x04, 0x07], 0, 2, &mut table), Ok(Read { place: 2, count: 1 }));
+/// assert_eq!(table, [1, 0, 7, 0, 77]);
+///
+/// let refused = read_message(&[0x04, 0x07, 0x00], 0, 3, &mut table).unwrap_err();
+/// assert_eq!((refused.refusal, refused.place), (Refusal::Truncated, 2));
+/// assert_eq!(table, [1, 0, 7, 0, 77]);
+/// ```
+pub fn read_message(
+    s: &[u8],
+    start: usize,
+    end: usize,
+    table: &mut [u64],
+) -> Result<Read, RefusedRead> {
+    let (to, words) = (table.as_mut_ptr(), table.len());
+    read(unsafe { ffi::capgauze_read_message(s.as_ptr(), s.len(), start, end, to, words) })
+}
+
+/// The payload of a record, as a part of the message; the empty part, if the record is not a good LengthDelimited one.
+/// The message may have any length.
+///
+/// ```
+/// # use capgauze::{payload_of, Record};
+/// let record = Record { tag: 3, wire_type: 1, value: 2, length: 2 };
+/// assert_eq!(payload_of(&[0x0D, 0x02, 0xC0, 0xDE], record), [0xC0, 0xDE]);
+/// assert_eq!(payload_of(&[0x0D, 0x02, 0xC0], record), []);
+/// ```
+pub fn payload_of(message: &[u8], record: Record) -> &[u8] {
+    let Record { tag, wire_type, value, length } = record;
+    let (s, len) = (message.as_ptr(), message.len());
+    let part = unsafe { ffi::capgauze_payload_of(s, len, tag, wire_type, value, length) };
+    &message[part.start as usize..][..part.length as usize]
+}
+
+/// Reads a record's payload as a message in itself: places and payload starts count from its first byte. A record
+/// without a payload is the empty message, which is accepted.
+///
+/// ```
+/// # use capgauze::{read_payload, Read, Record};
+/// let record = Record { tag: 3, wire_type: 1, value: 2, length: 2 };
+/// let mut table = [0; 4];
+/// assert_eq!(read_payload(&[0x0D, 0x02, 0x04, 0x07], record, &mut table), Ok(Read { place: 2, count: 1 }));
+/// assert_eq!(table, [1, 0, 7, 0]);
+/// ```
+pub fn read_payload(
+    message: &[u8],
+    record: Record,
+    table: &mut [u64],
+) -> Result<Read, RefusedRead> {
+    let Record { tag, wire_type, value, length } = record;
+    let (s, len, to, words) = (message.as_ptr(), message.len(), table.as_mut_ptr(), table.len());
+    read(unsafe { ffi::capgauze_read_payload(s, len, tag, wire_type, value, length, to, words) })
+}
+
+/// Reads the whole message: the first value of a tag, or `None`. Refusals: TooLong, Truncated, InvalidVarint,
+/// TagOverflowed.
+///
+/// ```
+/// # use capgauze::{pick, Value};
+/// assert_eq!(pick(&[0x04, 0x07, 0x04, 0x08], 2), Ok(Some(Value::Varint(8))));
+/// assert_eq!(pick(&[0x04, 0x07, 0x04, 0x08], 3), Ok(None));
+/// ```
+pub fn pick(s: &[u8], tag: u32) -> Result<Option<Value>, Refusal> {
+    let answer = unsafe { ffi::capgauze_pick(s.as_ptr(), s.len(), tag) };
+    accepted(answer.number)?;
+    Ok((answer.found != 0).then(|| value(answer.kind, answer.value, answer.length)))
+}
+
+// ---- Writing ----
+
+/// Writes a varint to the buffer's front: its length. Refusal: NoRoom.
+///
+/// ```
+/// # use capgauze::encode_varint;
+/// let mut buf = [0xAA; 3];
+/// assert_eq!(encode_varint(128, &mut buf), Ok(2));
+/// assert_eq!(buf, [0x80, 0x00, 0xAA]);
+/// ```
+pub fn encode_varint(v: u64, buf: &mut [u8]) -> Result<usize, Refusal> {
+    length(unsafe { ffi::capgauze_encode_varint(v, buf.as_mut_ptr(), buf.len()) })
+}
+
+/// Writes a varint to the buffer's end: its length. Refusal: NoRoom.
+///
+/// ```
+/// # use capgauze::{prepend_varint, Refusal};
+/// let mut buf = [0xAA; 3];
+/// assert_eq!(prepend_varint(128, &mut buf), Ok(2));
+/// assert_eq!(buf, [0xAA, 0x80, 0x00]);
+/// assert_eq!(prepend_varint(u64::MAX, &mut buf), Err(Refusal::NoRoom));
+/// ```
+pub fn prepend_varint(v: u64, buf: &mut [u8]) -> Result<usize, Refusal> {
+    length(unsafe { ffi::capgauze_prepend_varint(v, buf.as_mut_ptr(), buf.len()) })
+}
+
+/// Writes the key of a tag, after the tag `last`, to the buffer's front: its length. Refusals: OutOfOrder, NoRoom.
+///
+/// ```
+/// # use capgauze::{encode_key, Refusal, WireType};
+/// let mut buf = [0xAA; 2];
+/// assert_eq!(encode_key(3, 5, WireType::LengthDelimited, &mut buf), Ok(1));
+/// assert_eq!(buf, [0x09, 0xAA]);
+/// assert_eq!(encode_key(5, 3, WireType::Varint, &mut buf), Err(Refusal::OutOfOrder));
+/// ```
+pub fn encode_key(
+    last: u32,
+    tag: u32,
+    wire_type: WireType,
+    buf: &mut [u8],
+) -> Result<usize, Refusal> {
+    let kind = wire_type as u64;
+    length(unsafe { ffi::capgauze_encode_key(last, tag, kind, buf.as_mut_ptr(), buf.len()) })
+}
+
+/// Writes it to the buffer's end.
+///
+/// ```
+/// # use capgauze::{prepend_key, WireType};
+/// let mut buf = [0xAA; 2];
+/// assert_eq!(prepend_key(3, 5, WireType::LengthDelimited, &mut buf), Ok(1));
+/// assert_eq!(buf, [0xAA, 0x09]);
+/// ```
+pub fn prepend_key(
+    last: u32,
+    tag: u32,
+    wire_type: WireType,
+    buf: &mut [u8],
+) -> Result<usize, Refusal> {
+    let kind = wire_type as u64;
+    length(unsafe { ffi::capgauze_prepend_key(last, tag, kind, buf.as_mut_ptr(), buf.len()) })
+}
+
+/// The length of such a key, which is the same for every wire type. Refusal: OutOfOrder.
+///
+/// ```
+/// # use capgauze::key_len;
+/// assert_eq!((key_len(0, 31), key_len(0, 32)), (Ok(1), Ok(2)));
+/// ```
+pub fn key_len(last: u32, tag: u32) -> Result<usize, Refusal> {
+    length(unsafe { ffi::capgauze_key_len(last, tag) })
+}
+
+/// Writes the table's first `count` records as a message to the buffer's front; payloads are taken from the source.
+/// Refusals in order: TooLong for the source; BadRecord for a count above the room; from the first record on BadRecord,
+/// then OutOfOrder; TooLong for the output; NoRoom.
+///
+/// ```
+/// # use capgauze::{encode_message, Written};
+/// let table = [1, 0, 7, 0, 3, 1, 0, 2];
+/// let mut buf = [0xAA; 7];
+/// assert_eq!(encode_message(b"hi", &table, 2, &mut buf), Ok(Written { start: 0, length: 6 }));
+/// assert_eq!(buf, [0x04, 0x07, 0x09, 0x02, b'h', b'i', 0xAA]);
+/// ```
+pub fn encode_message(
+    source: &[u8],
+    table: &[u64],
+    count: usize,
+    buf: &mut [u8],
+) -> Result<Written, RefusedWrite> {
+    write_by(ffi::capgauze_encode_message, source, table, count, buf)
+}
+
+/// Writes it to the buffer's end. Refusals as [`encode_message`]'s.
+///
+/// ```
+/// # use capgauze::{prepend_message, Written};
+/// let table = [1, 0, 7, 0, 3, 1, 0, 2];
+/// let mut buf = [0xAA; 7];
+/// assert_eq!(prepend_message(b"hi", &table, 2, &mut buf), Ok(Written { start: 1, length: 6 }));
+/// assert_eq!(buf, [0xAA, 0x04, 0x07, 0x09, 0x02, b'h', b'i']);
+/// ```
+pub fn prepend_message(
+    source: &[u8],
+    table: &[u64],
+    count: usize,
+    buf: &mut [u8],
+) -> Result<Written, RefusedWrite> {
+    write_by(ffi::capgauze_prepend_message, source, table, count, buf)
+}
+
+/// The length of that message; nothing is written. Refusals as [`encode_message`]'s, without NoRoom.
+///
+/// ```
+/// # use capgauze::{encoded_len_message, Refusal};
+/// let table = [1, 0, 7, 0, 0, 0, 7, 0];
+/// assert_eq!(encoded_len_message(b"", &table, 1), Ok(2));
+/// let refused = encoded_len_message(b"", &table, 2).unwrap_err();
+/// assert_eq!((refused.refusal, refused.index), (Refusal::OutOfOrder, 1));
+/// ```
+pub fn encoded_len_message(
+    source: &[u8],
+    table: &[u64],
+    count: usize,
+) -> Result<usize, RefusedWrite> {
+    let (s, len, from, words) = (source.as_ptr(), source.len(), table.as_ptr(), table.len());
+    let answer = unsafe { ffi::capgauze_encoded_len_message(s, len, from, words, count) };
+    written(answer).map(|written| written.length)
+}
+
+/// Puts a record behind all of equal or lower tag among the table's first `count`; later ones move up one. The new count.
+/// Refusals in order: TooLong for the source; BadRecord for a count above the room; from the first record on BadRecord,
+/// then OutOfOrder; BadRecord for the new one; NoRoom.
+///
+/// ```
+/// # use capgauze::{insert, Record};
+/// let mut table = [1, 0, 7, 0, 77, 77, 77, 77];
+/// assert_eq!(insert(b"", &mut table, 1, Record::default()), Ok(2));
+/// assert_eq!(table, [0, 0, 0, 0, 1, 0, 7, 0]);
+/// ```
+pub fn insert(
+    source: &[u8],
+    table: &mut [u64],
+    count: usize,
+    record: Record,
+) -> Result<usize, RefusedInsert> {
+    let Record { tag, wire_type, value, length } = record;
+    let (s, len, to, words) = (source.as_ptr(), source.len(), table.as_mut_ptr(), table.len());
+    let answer =
+        unsafe { ffi::capgauze_insert(s, len, to, words, count, tag, wire_type, value, length) };
+    let index = answer.value as usize;
+    accepted(answer.number).map(|()| index).map_err(|refusal| RefusedInsert { refusal, index })
+}

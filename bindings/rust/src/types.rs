@@ -1,0 +1,192 @@
+//! What goes in and what comes out: values, records, refusals.
+use core::fmt;
+
+/// The four wire types.
+#[derive(Clone, Copy, Debug, PartialEq, Eq, Hash)]
+pub enum WireType {
+    Varint = 0,
+    LengthDelimited = 1,
+    ThirtyTwoBit = 2,
+    SixtyFourBit = 3,
+}
+
+/// A field's value. A payload is a part of the message: where it starts, and its length.
+#[derive(Clone, Copy, Debug, PartialEq, Eq, Hash)]
+pub enum Value {
+    Varint(u64),
+    LengthDelimited { start: usize, length: usize },
+    ThirtyTwoBit(u32),
+    SixtyFourBit(u64),
+}
+
+/// A field: its tag and one of four values.
+#[derive(Clone, Copy, Debug, PartialEq, Eq, Hash)]
+pub struct Field {
+    pub tag: u32,
+    pub value: Value,
+}
+
+/// A key: the tag that it gives, and the wire type of the value behind it.
+#[derive(Clone, Copy, Debug, PartialEq, Eq, Hash)]
+pub struct Key {
+    pub tag: u32,
+    pub wire_type: WireType,
+}
+
+/// What was read, and the place after it.
+#[derive(Clone, Copy, Debug, PartialEq, Eq, Hash)]
+pub struct Decoded<T> {
+    pub value: T,
+    pub next: usize,
+}
+
+/// An accepted message: the end reached, and the number of its fields.
+#[derive(Clone, Copy, Debug, PartialEq, Eq, Hash)]
+pub struct Read {
+    pub place: usize,
+    pub count: usize,
+}
+
+/// A written message: where it starts in the buffer, and its length.
+#[derive(Clone, Copy, Debug, PartialEq, Eq, Hash)]
+pub struct Written {
+    pub start: usize,
+    pub length: usize,
+}
+
+/// A record: four words of a table. Any words are a record; a good one has a tag up to 4,294,967,295, a wire type's
+/// number, the length word of its type (0, the payload's length, 4, 8), a four-byte value below 2^32, and a payload
+/// inside its source.
+#[derive(Clone, Copy, Debug, Default, PartialEq, Eq, Hash)]
+pub struct Record {
+    pub tag: u64,
+    pub wire_type: u64,
+    /// The value, or the payload's start.
+    pub value: u64,
+    pub length: u64,
+}
+
+/// The words of a record.
+pub const RECORD_WORDS: usize = 4;
+
+impl Record {
+    /// The record at an index of a table, if the table has room for it.
+    ///
+    /// ```
+    /// # use capgauze::Record;
+    /// let table = [3, 1, 12, 2, 77];
+    /// assert_eq!(Record::at(&table, 0), Some(Record { tag: 3, wire_type: 1, value: 12, length: 2 }));
+    /// assert_eq!(Record::at(&table, 1), None);
+    /// ```
+    pub fn at(table: &[u64], index: usize) -> Option<Record> {
+        let row = table.chunks_exact(RECORD_WORDS).nth(index)?;
+        Some(Record { tag: row[0], wire_type: row[1], value: row[2], length: row[3] })
+    }
+
+    /// The field that a good record stands for. A record whose tag, type or four-byte value does not fit stands for
+    /// none; whether its payload lies in a source is not looked at.
+    pub fn field(&self) -> Option<Field> {
+        let tag = u32::try_from(self.tag).ok()?;
+        let value = match (self.wire_type, self.length) {
+            (0, 0) => Value::Varint(self.value),
+            (1, length) => {
+                Value::LengthDelimited { start: self.value as usize, length: length as usize }
+            }
+            (2, 4) => Value::ThirtyTwoBit(u32::try_from(self.value).ok()?),
+            (3, 8) => Value::SixtyFourBit(self.value),
+            _ => return None,
+        };
+        Some(Field { tag, value })
+    }
+}
+
+impl From<Field> for Record {
+    /// ```
+    /// # use capgauze::{Field, Record, Value};
+    /// let field = Field { tag: 7, value: Value::ThirtyTwoBit(5) };
+    /// assert_eq!(Record::from(field), Record { tag: 7, wire_type: 2, value: 5, length: 4 });
+    /// assert_eq!(Record::from(field).field(), Some(field));
+    /// ```
+    fn from(field: Field) -> Record {
+        let (wire_type, value, length) = match field.value {
+            Value::Varint(value) => (0, value, 0),
+            Value::LengthDelimited { start, length } => (1, start as u64, length as u64),
+            Value::ThirtyTwoBit(value) => (2, value.into(), 4),
+            Value::SixtyFourBit(value) => (3, value, 8),
+        };
+        Record { tag: field.tag.into(), wire_type, value, length }
+    }
+}
+
+/// Why a call was refused.
+#[derive(Clone, Copy, Debug, PartialEq, Eq, Hash)]
+pub enum Refusal {
+    /// The slice or the end came too soon.
+    Truncated = 1,
+    /// A varint of 2^64 or more.
+    InvalidVarint = 2,
+    /// A tag, or a rise of tags, above 4,294,967,295.
+    TagOverflowed = 3,
+    /// Slice, or bytes to be written, above [`LIMIT`](crate::LIMIT).
+    TooLong = 4,
+    /// A good message with more fields than the table has room, a buffer too short, a full table.
+    NoRoom = 5,
+    /// A record that is not good, or a count above the room.
+    BadRecord = 6,
+    /// A tag below the one before it.
+    OutOfOrder = 7,
+    /// A place, start or end above the slice's length.
+    BadCap = 8,
+}
+
+impl Refusal {
+    /// Its number in document 01.
+    pub fn number(self) -> u64 {
+        self as u64
+    }
+}
+
+impl fmt::Display for Refusal {
+    fn fmt(&self, f: &mut fmt::Formatter) -> fmt::Result {
+        write!(f, "{self:?} ({})", self.number())
+    }
+}
+
+impl core::error::Error for Refusal {}
+
+macro_rules! refusals {
+    ($($(#[$doc:meta])* $name:ident { $($word:ident: $kind:ty),* })*) => { $(
+        $(#[$doc])*
+        #[derive(Clone, Copy, Debug, PartialEq, Eq, Hash)]
+        pub struct $name {
+            pub refusal: Refusal,
+            $(pub $word: $kind),*
+        }
+
+        impl fmt::Display for $name {
+            fn fmt(&self, f: &mut fmt::Formatter) -> fmt::Result {
+                write!(f, "{}", self.refusal)?;
+                $(write!(f, ", {} {}", stringify!($word), self.$word)?;)*
+                Ok(())
+            }
+        }
+
+        impl core::error::Error for $name {}
+    )* };
+}
+
+refusals! {
+    /// A reader of one part was refused; the place is the one that it was given.
+    RefusedAt { place: usize }
+    /// A reader that takes a last tag was refused; place and last tag are those that it was given.
+    RefusedAfter { place: usize, last: u32 }
+    /// A message reader was refused. The place is the first byte of the field being read, or of the last field read, if
+    /// that one passed the end (the start, if no field was read). With NoRoom the count is the number of fields that need
+    /// room; all else is 0.
+    RefusedRead { place: usize, count: usize }
+    /// Writing or measuring was refused: at the record's index, or the room, where the count is above it; else 0.
+    RefusedWrite { index: usize, length: usize }
+    /// An insertion was refused: at a record's index, the room where the count is above it, the count where the new record
+    /// is not good; else 0.
+    RefusedInsert { index: usize }
+}

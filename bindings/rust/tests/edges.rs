@@ -1,0 +1,187 @@
+//! Sizes at the edge, without the oracle: empty slices, tables of every small size, places past the end, counts above
+//! the room, the limit; and that no refused call changes what it was lent.
+use capgauze::*;
+
+const HUGE: [usize; 4] = [100, 1 << 32, usize::MAX / 4 + 1, usize::MAX];
+const TYPES: [WireType; 4] =
+    [WireType::Varint, WireType::LengthDelimited, WireType::ThirtyTwoBit, WireType::SixtyFourBit];
+
+fn filled<T: Copy>(fill: T, len: usize) -> Vec<T> {
+    vec![fill; len]
+}
+
+#[test]
+fn empty_slices() {
+    let truncated = Refusal::Truncated;
+    assert_eq!(read_message(&[], 0, 0, &mut []), Ok(Read { place: 0, count: 0 }));
+    assert_eq!(decode_varint(&[], 0), Err(RefusedAt { refusal: truncated, place: 0 }));
+    assert_eq!(decode_varint_capped(&[], 0, 0), Err(RefusedAt { refusal: truncated, place: 0 }));
+    let after = RefusedAfter { refusal: truncated, place: 0, last: 9 };
+    assert_eq!(decode_key(&[], 0, 0, 9), Err(after));
+    assert_eq!(step_at(&[], 0, 0, 9), Ok(None));
+    for wire_type in TYPES {
+        let refused = RefusedAt { refusal: truncated, place: 0 };
+        assert_eq!(decode_value(&[], 0, 0, wire_type), Err(refused));
+        assert_eq!(skip_field(&[], 0, 0, wire_type), Err(refused));
+        assert_eq!(encode_key(0, 0, wire_type, &mut []), Err(Refusal::NoRoom));
+        assert_eq!(prepend_key(1, 0, wire_type, &mut []), Err(Refusal::OutOfOrder));
+    }
+    assert_eq!(pick(&[], 0), Ok(None));
+    assert_eq!(fields(&[]).next(), None);
+    assert_eq!(encode_varint(0, &mut []), Err(Refusal::NoRoom));
+    assert_eq!(prepend_varint(0, &mut []), Err(Refusal::NoRoom));
+    assert_eq!(encode_message(&[], &[], 0, &mut []), Ok(Written { start: 0, length: 0 }));
+    assert_eq!(prepend_message(&[], &[], 0, &mut [1, 2]), Ok(Written { start: 2, length: 0 }));
+    assert_eq!(encoded_len_message(&[], &[], 0), Ok(0));
+    let full = RefusedInsert { refusal: Refusal::NoRoom, index: 0 };
+    assert_eq!(insert(&[], &mut [], 0, Record::default()), Err(full));
+    let empty = Record { tag: 0, wire_type: 1, value: 0, length: 0 };
+    assert_eq!(payload_of(&[], empty), []);
+    assert_eq!(read_payload(&[], empty, &mut []), Ok(Read { place: 0, count: 0 }));
+}
+
+#[test]
+fn tables_of_every_small_size() {
+    for words in 0..=17 {
+        for fields in 0..=3 {
+            let mut table = filled(77, words);
+            let answer = read_message(&MESSAGE, 0, 2 * fields, &mut table);
+            if fields <= words / RECORD_WORDS {
+                assert_eq!(answer, Ok(Read { place: 2 * fields, count: fields }));
+                assert_eq!(table[..4 * fields], RECORDS[..4 * fields]);
+                assert_eq!(table[4 * fields..], filled(77, words - 4 * fields));
+            } else {
+                let refused = RefusedRead { refusal: Refusal::NoRoom, place: 0, count: fields };
+                assert_eq!(answer, Err(refused));
+                assert_eq!(table, filled(77, words));
+            }
+        }
+    }
+}
+
+type Writer = fn(&[u8], &[u64], usize, &mut [u8]) -> Result<Written, RefusedWrite>;
+
+const RECORDS: [u64; 12] = [1, 0, 7, 0, 1, 0, 8, 0, 2, 0, 9, 0];
+const MESSAGE: [u8; 6] = [0x04, 0x07, 0x00, 0x08, 0x04, 0x09];
+
+/// The first records of a table, of which each takes two bytes, written into a buffer of some length.
+fn written_alike(write: Writer, back: bool, table: &[u64], count: usize, buf_len: usize) {
+    let room = table.len() / RECORD_WORDS;
+    let mut buf = filled(0xA5, buf_len);
+    let answer = write(&[], table, count, &mut buf);
+    let mut expected = filled(0xA5, buf_len);
+    if count > room || 2 * count > buf_len {
+        let bad = count > room;
+        let refusal = if bad { Refusal::BadRecord } else { Refusal::NoRoom };
+        let index = if bad { room } else { 0 };
+        assert_eq!(answer, Err(RefusedWrite { refusal, index, length: 0 }));
+    } else {
+        let (start, length) = (if back { buf_len - 2 * count } else { 0 }, 2 * count);
+        assert_eq!(answer, Ok(Written { start, length }));
+        expected[start..][..length].copy_from_slice(&MESSAGE[..length]);
+    }
+    assert_eq!(buf, expected);
+}
+
+#[test]
+fn counts_and_rooms() {
+    for words in 0..=12 {
+        let room = words / RECORD_WORDS;
+        for count in (0..=5).chain(HUGE) {
+            for buf_len in 0..=7 {
+                written_alike(encode_message, false, &RECORDS[..words], count, buf_len);
+                written_alike(prepend_message, true, &RECORDS[..words], count, buf_len);
+            }
+            let mut table = RECORDS[..words].to_vec();
+            let answer = insert(&[], &mut table, count, Record { tag: 2, ..Record::default() });
+            if count < room {
+                assert_eq!(answer, Ok(count + 1));
+                assert_eq!(table[4 * count..][..4], [2, 0, 0, 0]);
+            } else {
+                let bad = count > room;
+                let refusal = if bad { Refusal::BadRecord } else { Refusal::NoRoom };
+                let index = if bad { room } else { 0 };
+                assert_eq!(answer, Err(RefusedInsert { refusal, index }));
+                assert_eq!(table, RECORDS[..words]);
+            }
+        }
+    }
+}
+
+#[test]
+fn places_past_the_slice() {
+    let s = [0x00, 0x00, 0x00];
+    for len in 0..=3 {
+        let s = &s[..len];
+        for (at, end) in [(len + 1, 0), (0, len + 1), (len + 1, len + 1)]
+            .into_iter()
+            .chain(HUGE.map(|huge| (huge, 0)))
+            .chain(HUGE.map(|huge| (0, huge)))
+        {
+            let refusal = Refusal::BadCap;
+            let mut table = filled(77, 9);
+            let refused = RefusedRead { refusal, place: 0, count: 0 };
+            assert_eq!(read_message(s, at, end, &mut table), Err(refused));
+            assert_eq!(table, filled(77, 9));
+            let refused = RefusedAt { refusal, place: at };
+            assert_eq!(decode_varint_capped(s, at, end), Err(refused));
+            if at > len {
+                assert_eq!(decode_varint(s, at), Err(refused));
+            }
+            let after = RefusedAfter { refusal, place: at, last: 5 };
+            assert_eq!(decode_key(s, at, end, 5), Err(after));
+            assert_eq!(step_at(s, at, end, 5), Err(after));
+            for wire_type in TYPES {
+                assert_eq!(decode_value(s, at, end, wire_type), Err(refused));
+                assert_eq!(skip_field(s, at, end, wire_type), Err(refused));
+            }
+        }
+    }
+}
+
+#[test]
+fn the_limit() {
+    let mut message = vec![0x00; LIMIT - 3];
+    message.extend([0x00, 0x80, 0x00]); // 32,766 fields of two bytes, one of three
+    let mut table = filled(77, 4 * 32_767);
+    let read = read_message(&message, 0, LIMIT, &mut table);
+    assert_eq!(read, Ok(Read { place: LIMIT, count: 32_767 }));
+    let mut buf = filled(0xA5, LIMIT + 1);
+    let written = prepend_message(&message, &table, 32_767, &mut buf);
+    assert_eq!(written, Ok(Written { start: 1, length: LIMIT }));
+    assert_eq!((buf[0], &buf[1..]), (0xA5, &message[..]));
+
+    message.push(0x00);
+    let refusal = Refusal::TooLong;
+    let before = table.clone();
+    let refused = RefusedRead { refusal, place: 0, count: 0 };
+    assert_eq!(read_message(&message, 0, 0, &mut table), Err(refused));
+    assert_eq!(decode_varint(&message, 5), Err(RefusedAt { refusal, place: 5 }));
+    assert_eq!(pick(&message, 0), Err(refusal));
+    let refused = RefusedWrite { refusal, index: 0, length: 0 };
+    assert_eq!(encode_message(&message, &table, 0, &mut buf), Err(refused));
+    assert_eq!(
+        insert(&message, &mut table, 0, Record::default()),
+        Err(RefusedInsert { refusal, index: 0 })
+    );
+    assert_eq!(table, before);
+    let whole = Record { tag: 0, wire_type: 1, value: 0, length: message.len() as u64 };
+    let part = payload_of(&message, whole);
+    assert_eq!((part.as_ptr(), part.len()), (message.as_ptr(), message.len())); // a part, not a copy
+    assert_eq!(
+        read_payload(&message, whole, &mut table),
+        Err(RefusedRead { refusal, place: 0, count: 0 })
+    );
+
+    // 1 byte of key, 3 of length: a payload of 65,531 bytes is the longest
+    let payload = |length| [0, 1, 0, length];
+    assert_eq!(encoded_len_message(&message[..LIMIT], &payload(65_531), 1), Ok(LIMIT));
+    assert_eq!(
+        encoded_len_message(&message[..LIMIT], &payload(65_532), 1),
+        Err(refused_too_long())
+    );
+}
+
+fn refused_too_long() -> RefusedWrite {
+    RefusedWrite { refusal: Refusal::TooLong, index: 0, length: 0 }
+}
