@@ -1,0 +1,319 @@
+"""Capgauze: a proved reader and writer of Bilrost messages, for Python.
+
+The entries are those of the C interface (bindings/c/capgauze.h says what each answers), called through the shared
+object that build.sh makes of the proved archive.
+
+    >>> table = words(8)
+    >>> read_message(bytes.fromhex("04FFFEFEFEFEFEFEFEFE0902C0DE0201000000"), table)
+    Traceback (most recent call last):
+    capgauze.Refused: NoRoom (5): place 0, count 3
+
+A message is bytes, or anything that has its buffer. A table is a writable buffer of 64-bit words, four a record: what
+`words` makes, an array('Q'), a numpy array of uint64. A buffer to be written to is a bytearray or the like. Memory that
+is written must overlap nothing else that is lent.
+
+A refused call raises Refused and leaves what was lent as it was. A number that its C type can't hold raises
+OverflowError; it never reaches the library.
+
+`records` and `message` at the end of this file do without a table of one's own.
+"""
+import ctypes
+import operator
+import os
+from array import array
+from collections import namedtuple
+
+LIMIT = 65_535  # the longest message
+RECORD_WORDS = 4
+VARINT, LENGTH_DELIMITED, THIRTY_TWO_BIT, SIXTY_FOUR_BIT = range(4)
+NAMES = ("accepted", "Truncated", "InvalidVarint", "TagOverflowed", "TooLong", "NoRoom", "BadRecord", "OutOfOrder",
+         "BadCap")
+
+# What accepted calls answer; a record's words are a table's.
+Record = namedtuple("Record", "tag type value length")
+Varint = namedtuple("Varint", "value place")
+Key = namedtuple("Key", "tag type place")
+Value = namedtuple("Value", "value length place")
+Step = namedtuple("Step", "tag type value length place")
+Read = namedtuple("Read", "place count")
+Written = namedtuple("Written", "start length")
+Picked = namedtuple("Picked", "type value length")
+
+
+class Refused(ValueError):
+    """A refusal: its number and name, and by name what it carries (place, count, start, tag ..)."""
+
+    def __init__(self, number, carried):
+        self.number, self.name, self.carried = number, NAMES[number], carried
+        told = ", ".join(f"{key} {value}" for key, value in carried.items())
+        super().__init__(f"{self.name} ({number})" + (f": {told}" if told else ""))
+
+
+# ---- The library ----
+
+def _answer(names):
+    return type("Answer", (ctypes.Structure,), {"_fields_": [(name, ctypes.c_uint64) for name in names.split()]})
+
+
+_U64, _U32, _I64, _SIZE = ctypes.c_uint64, ctypes.c_uint32, ctypes.c_int64, ctypes.c_size_t
+_RANGES = {_U64: (0, 2**64 - 1), _SIZE: (0, 2**64 - 1), _U32: (0, 2**32 - 1), _I64: (-(2**63), 2**63 - 1)}
+_BYTES = (ctypes.POINTER(ctypes.c_uint8), _SIZE)
+_TABLE = (ctypes.POINTER(_U64), _SIZE)
+_RECORD = (_U64,) * 4
+
+_NUMBER, _VARINT = _answer("number value"), _answer("number value place")
+_READ, _WRITTEN = _answer("number place count"), _answer("number start length")
+
+_ENTRIES = {
+    "encoded_len_varint": (_U64, _U64),
+    "i64_to_unsigned": (_U64, _I64),
+    "u64_to_signed": (_I64, _U64),
+    "decode_varint": (_VARINT, *_BYTES, _SIZE),
+    "decode_varint_capped": (_VARINT, *_BYTES, _SIZE, _SIZE),
+    "encode_varint": (_NUMBER, _U64, *_BYTES),
+    "prepend_varint": (_NUMBER, _U64, *_BYTES),
+    "decode_key": (_answer("number tag type place"), *_BYTES, _SIZE, _SIZE, _U32),
+    "encode_key": (_NUMBER, _U32, _U32, _U64, *_BYTES),
+    "prepend_key": (_NUMBER, _U32, _U32, _U64, *_BYTES),
+    "key_len": (_NUMBER, _U32, _U32),
+    "decode_value": (_answer("number value length place"), *_BYTES, _SIZE, _SIZE, _U64),
+    "skip_field": (_answer("number place"), *_BYTES, _SIZE, _SIZE, _U64),
+    "step_at": (_answer("number found tag type value length place"), *_BYTES, _SIZE, _SIZE, _U32),
+    "read_message": (_READ, *_BYTES, _SIZE, _SIZE, *_TABLE),
+    "payload_of": (_answer("start length"), *_BYTES, *_RECORD),
+    "read_payload": (_READ, *_BYTES, *_RECORD, *_TABLE),
+    "encode_message": (_WRITTEN, *_BYTES, *_TABLE, _SIZE, *_BYTES),
+    "prepend_message": (_WRITTEN, *_BYTES, *_TABLE, _SIZE, *_BYTES),
+    "encoded_len_message": (_WRITTEN, *_BYTES, *_TABLE, _SIZE),
+    "insert": (_NUMBER, *_BYTES, *_TABLE, _SIZE, *_RECORD),
+    "pick": (_answer("number found type value length"), *_BYTES, _U32),
+}
+
+
+def _load():
+    here = os.path.dirname(os.path.abspath(__file__))
+    library = ctypes.CDLL(os.environ.get("CAPGAUZE_LIBRARY") or os.path.join(here, "libcapgauze.so"))
+    for name, (answer, *arguments) in _ENTRIES.items():
+        entry = getattr(library, "capgauze_" + name)
+        entry.restype, entry.argtypes = answer, arguments
+    return library
+
+
+_library = _load()
+
+
+def lent(s):
+    """A message as a pointer and a length."""
+    s = s if isinstance(s, bytes) else bytes(memoryview(s))
+    return ctypes.cast(ctypes.c_char_p(s), _BYTES[0]), len(s)
+
+
+def room(memory, kind=ctypes.c_uint8):
+    """Writable memory as an array of C numbers and its length."""
+    view = memoryview(memory)
+    if view.readonly or not view.c_contiguous or view.itemsize != ctypes.sizeof(kind):
+        raise TypeError(f"not a writable buffer of {kind.__name__}")
+    count = view.nbytes // view.itemsize
+    return (kind * count).from_buffer(view), count
+
+
+def call(name, *arguments):
+    """An entry's answer in C's words: a tuple of numbers, or a number."""
+    for kind, number in zip(_ENTRIES[name][1:], arguments):
+        low, high = _RANGES.get(kind, (None, None))
+        if low is not None and not low <= operator.index(number) <= high:
+            raise OverflowError(f"{number} is not from {low} to {high}")
+    answer = getattr(_library, "capgauze_" + name)(*arguments)
+    if isinstance(answer, int):
+        return answer
+    return tuple(getattr(answer, field) for field, _ in answer._fields_)
+
+
+def _accepted(name, *arguments):
+    """The answer's words behind the number, or Refused with what they are called."""
+    number, *words = call(name, *arguments)
+    if number:
+        names = [field for field, _ in _ENTRIES[name][0]._fields_[1:]]
+        raise Refused(number, dict(zip(names, words)))
+    return words
+
+
+def _end(s, end):
+    return memoryview(s).nbytes if end is None else end
+
+
+# ---- Numbers ----
+
+def encoded_len_varint(value):
+    """How many bytes the varint takes: 1 to 9."""
+    return call("encoded_len_varint", value)
+
+
+def i64_to_unsigned(value):
+    """The signed mapping: v >= 0 gives 2v, v < 0 gives -2v - 1.
+
+    >>> [i64_to_unsigned(v) for v in (0, -1, 1, -1500)]
+    [0, 1, 2, 2999]
+    """
+    return call("i64_to_unsigned", value)
+
+
+def u64_to_signed(value):
+    """The signed mapping back."""
+    return call("u64_to_signed", value)
+
+
+# ---- One part of a message ----
+
+def decode_varint(s, at=0):
+    """The varint at a place: its value and the place after it.
+
+    >>> decode_varint(bytes.fromhex("8000"))
+    Varint(value=128, place=2)
+    """
+    return Varint(*_accepted("decode_varint", *lent(s), at))
+
+
+def decode_varint_capped(s, at, end):
+    """The same under an end; the place after it may lie past the end."""
+    return Varint(*_accepted("decode_varint_capped", *lent(s), at, end))
+
+
+def decode_key(s, at=0, end=None, last=0):
+    """The key at a place, after the tag `last`."""
+    return Key(*_accepted("decode_key", *lent(s), at, _end(s, end), last))
+
+
+def decode_value(s, at, end, type):
+    """The value of a wire type at a place, as a record's last two words."""
+    return Value(*_accepted("decode_value", *lent(s), at, end, type))
+
+
+def skip_field(s, at, end, type):
+    """Passes over a value and the fields of the same tag behind it: the place reached."""
+    return _accepted("skip_field", *lent(s), at, end, type)[0]
+
+
+def step_at(s, at=0, end=None, last=0):
+    """One step of a message: a field, or None at the end."""
+    found, *words = _accepted("step_at", *lent(s), at, _end(s, end), last)
+    return Step(*words) if found else None
+
+
+# ---- Whole messages ----
+
+def words(count):
+    """A table of that many words, all 0."""
+    return array("Q", bytes(8 * count))
+
+
+def read_message(s, table, start=0, end=None):
+    """Reads the message from start up to end into the table: the end reached and the number of fields.
+
+    >>> table = words(4)
+    >>> read_message(bytes.fromhex("0902C0DE"), table)
+    Read(place=4, count=1)
+    >>> Record(*table)
+    Record(tag=2, type=1, value=2, length=2)
+    """
+    return Read(*_accepted("read_message", *lent(s), start, _end(s, end), *room(table, ctypes.c_uint64)))
+
+
+def payload_of(s, record):
+    """The payload of a record as a part of the message; the empty part, if it has none.
+
+    >>> bytes(payload_of(bytes.fromhex("0902C0DE"), (2, 1, 2, 2))).hex()
+    'c0de'
+    """
+    start, length = call("payload_of", *lent(s), *record)
+    return memoryview(s).cast("B")[start:start + length]
+
+
+def read_payload(s, record, table):
+    """Reads a record's payload as a message in itself; places count from the payload's first byte."""
+    return Read(*_accepted("read_payload", *lent(s), *record, *room(table, ctypes.c_uint64)))
+
+
+def pick(s, tag):
+    """Reads the whole message: the first field of the tag, or None.
+
+    >>> pick(bytes.fromhex("040504010000"), 2)
+    Picked(type=0, value=1, length=0)
+    """
+    found, *picked = _accepted("pick", *lent(s), tag)
+    return Picked(*picked) if found else None
+
+
+# ---- Writing ----
+
+def encode_varint(value, buf):
+    """Writes a varint to the buffer's front: its length."""
+    return _accepted("encode_varint", value, *room(buf))[0]
+
+
+def prepend_varint(value, buf):
+    """Writes a varint to the buffer's end: its length."""
+    return _accepted("prepend_varint", value, *room(buf))[0]
+
+
+def encode_key(last, tag, type, buf):
+    """Writes the key of `tag`, after the tag `last`, to the buffer's front: its length."""
+    return _accepted("encode_key", last, tag, type, *room(buf))[0]
+
+
+def prepend_key(last, tag, type, buf):
+    """Writes it to the buffer's end."""
+    return _accepted("prepend_key", last, tag, type, *room(buf))[0]
+
+
+def key_len(last, tag):
+    """The length of such a key, whatever its type."""
+    return _accepted("key_len", last, tag)[0]
+
+
+def encode_message(source, table, count, buf):
+    """Writes the table's first records as a message to the buffer's front: start and length."""
+    return Written(*_accepted("encode_message", *lent(source), *room(table, ctypes.c_uint64), count, *room(buf)))
+
+
+def prepend_message(source, table, count, buf):
+    """Writes it to the buffer's end."""
+    return Written(*_accepted("prepend_message", *lent(source), *room(table, ctypes.c_uint64), count, *room(buf)))
+
+
+def encoded_len_message(source, table, count):
+    """The length of that message."""
+    return _accepted("encoded_len_message", *lent(source), *room(table, ctypes.c_uint64), count)[1]
+
+
+def insert(source, table, count, record):
+    """Puts a record behind all of equal or lower tag among the table's first `count`: the new count."""
+    return _accepted("insert", *lent(source), *room(table, ctypes.c_uint64), count, *record)[0]
+
+
+# ---- Without a table of one's own ----
+
+def records(s, start=0, end=None):
+    """All records of a message.
+
+    >>> for record in records(bytes.fromhex("0405040A0902C0DE")): print(record)
+    Record(tag=1, type=0, value=5, length=0)
+    Record(tag=2, type=0, value=10, length=0)
+    Record(tag=4, type=1, value=6, length=2)
+    """
+    table = words(RECORD_WORDS * (memoryview(s).nbytes // 2))
+    count = read_message(s, table, start, end).count
+    rows = range(0, RECORD_WORDS * count, RECORD_WORDS)
+    return [Record(*table[at:at + RECORD_WORDS]) for at in rows]
+
+
+def message(records, source=b""):
+    """The message of these records, their payloads taken from the source.
+
+    >>> message([(1, 0, 5, 0), (4, 1, 0, 2)], b"hello").hex()
+    '04050d026865'
+    """
+    table = array("Q", (word for record in records for word in Record(*record)))
+    buf = bytearray(encoded_len_message(source, table, len(records)))
+    encode_message(source, table, len(records), buf)
+    return bytes(buf)

@@ -1,0 +1,146 @@
+"""The module's tests: the examples in its text, the fixed list, and what is Python's own: buffers, numbers, refusals."""
+import doctest
+import unittest
+from array import array
+
+import capgauze
+import check_list
+
+MESSAGE = bytes.fromhex("04FFFEFEFEFEFEFEFEFE0902C0DE0201000000")
+RECORDS = [(1, 0, 2**64 - 1, 0), (3, 1, 12, 2), (3, 2, 1, 4)]
+
+
+def load_tests(loader, tests, _):
+    tests.addTests(doctest.DocTestSuite(capgauze))
+    return tests
+
+
+class TheList(unittest.TestCase):
+    def test_list(self):
+        cases, differences = check_list.check()
+        self.assertGreater(cases, 10_000)
+        self.assertEqual(differences, [])
+
+
+class Refusals(unittest.TestCase):
+    def refused(self, number, call, *arguments, **carried):
+        with self.assertRaises(capgauze.Refused) as caught:
+            call(*arguments)
+        self.assertEqual((caught.exception.number, caught.exception.carried), (number, carried))
+
+    def test_each_number(self):
+        one, two = array("Q", (1, 0, 7, 0)), array("Q", (1, 0, 7, 0, 0, 0, 7, 0))
+        read = capgauze.read_message
+        self.refused(1, read, b"\x04", one, place=0, count=0)
+        self.refused(2, capgauze.decode_varint, bytes.fromhex("80FFFEFEFEFEFEFEFE"), value=0, place=0)
+        self.refused(3, capgauze.decode_key, bytes.fromhex("FCFEFEFE3E"), 0, 5, 1, tag=1, type=0, place=0)
+        self.refused(4, read, bytes(capgauze.LIMIT + 1), one, 0, 0, place=0, count=0)
+        self.refused(5, read, b"\x04\x07\x00\x08", one, place=0, count=2)
+        self.refused(6, capgauze.encoded_len_message, b"", one, 2, start=1, length=0)
+        self.refused(6, capgauze.decode_value, b"", 9, 9, 4, value=0, length=0, place=9)
+        self.refused(7, capgauze.encode_message, b"", two, 2, bytearray(9), start=1, length=0)
+        self.refused(8, read, b"\x04\x07", one, 0, 3, place=0, count=0)
+        self.assertEqual(one, array("Q", (1, 0, 7, 0)))
+
+    def test_names(self):
+        with self.assertRaisesRegex(capgauze.Refused, r"^Truncated \(1\): place 2, count 0$") as caught:
+            capgauze.records(b"\x04\x07\x00")
+        self.assertEqual(caught.exception.name, "Truncated")
+        self.assertIsInstance(caught.exception, ValueError)
+
+    def test_insertion(self):
+        table = array("Q", (1, 0, 7, 0, 5, 5, 5, 5))
+        self.assertEqual(capgauze.insert(b"", table, 1, (0, 0, 9, 0)), 2)
+        self.assertEqual(table, array("Q", (0, 0, 9, 0, 1, 0, 7, 0)))
+        self.refused(5, capgauze.insert, b"", table, 2, (0, 0, 9, 0), value=0)
+        self.refused(6, capgauze.insert, b"", table, 2, (0, 0, 9, 1), value=2)
+
+
+class Messages(unittest.TestCase):
+    def test_there_and_back(self):
+        records = capgauze.records(MESSAGE)
+        self.assertEqual(records, RECORDS)
+        self.assertEqual(capgauze.message(records, MESSAGE), MESSAGE)
+        self.assertEqual(capgauze.records(b""), [])
+        self.assertEqual(capgauze.message([]), b"")
+
+    def test_any_bytes(self):
+        for kind in (bytes, bytearray, memoryview, lambda s: array("B", s)):
+            self.assertEqual(capgauze.records(kind(MESSAGE)), RECORDS)
+            self.assertEqual(bytes(capgauze.payload_of(kind(MESSAGE), RECORDS[1])), b"\xC0\xDE")
+        self.assertEqual(capgauze.records(memoryview(b"\x00" + MESSAGE)[1:]), RECORDS)
+        with self.assertRaises(TypeError):
+            capgauze.records(5)
+        with self.assertRaises(TypeError):
+            capgauze.records("04")
+
+    def test_a_part_and_no_copy(self):
+        message = bytearray(MESSAGE)
+        part = capgauze.payload_of(message, RECORDS[1])
+        message[12] = 0xFF
+        self.assertEqual(bytes(part), b"\xFF\xDE")
+
+    def test_a_part_read_as_a_message(self):
+        inner = capgauze.message([(1, 0, 101_325, 0), (2, 0, 2**64 - 1, 0)])
+        outer = capgauze.message([(1, 0, 11_035, 0), (3, 1, 0, len(inner))], inner)
+        level = capgauze.records(outer)[1]
+        table = capgauze.words(8)
+        self.assertEqual(capgauze.read_payload(outer, level, table), (len(inner), 2))
+        self.assertEqual(list(table), [1, 0, 101_325, 0, 2, 0, 2**64 - 1, 0])
+        self.assertEqual(capgauze.records(capgauze.payload_of(outer, level)), capgauze.records(inner))
+
+    def test_steps(self):
+        at, last, seen = 0, 0, []
+        while step := capgauze.step_at(MESSAGE, at, last=last):
+            seen.append(step[:4])
+            at, last = step.place, step.tag
+        self.assertEqual(seen, RECORDS)
+
+    def test_pick(self):
+        self.assertEqual(capgauze.pick(MESSAGE, 3), (1, 12, 2))
+        self.assertIsNone(capgauze.pick(MESSAGE, 2))
+
+    def test_both_ways(self):
+        table = array("Q", (word for record in RECORDS for word in record))
+        for write, start in ((capgauze.encode_message, 0), (capgauze.prepend_message, 3)):
+            buf = bytearray(b"\xA5" * 22)
+            self.assertEqual(write(MESSAGE, table, 3, buf), (start, 19))
+            self.assertEqual(buf[start:start + 19], MESSAGE)
+            self.assertEqual(bytes(buf[:start] + buf[start + 19:]), b"\xA5\xA5\xA5")
+
+    def test_parts_written(self):
+        for put, shown in ((capgauze.encode_varint, "8000a5"), (capgauze.prepend_varint, "a58000")):
+            buf = bytearray(b"\xA5" * 3)
+            self.assertEqual((put(128, buf), buf.hex()), (2, shown))
+        for put, shown in ((capgauze.encode_key, "09a5"), (capgauze.prepend_key, "a509")):
+            buf = bytearray(b"\xA5" * 2)
+            self.assertEqual((put(3, 5, capgauze.LENGTH_DELIMITED, buf), buf.hex()), (1, shown))
+        self.assertEqual([capgauze.key_len(0, tag) for tag in (31, 32)], [1, 2])
+
+
+class Lent(unittest.TestCase):
+    def test_empty(self):
+        self.assertEqual(capgauze.read_message(b"", array("Q")), (0, 0))
+        self.assertEqual(capgauze.encode_message(b"", array("Q"), 0, bytearray()), (0, 0))
+        with self.assertRaises(capgauze.Refused):
+            capgauze.encode_varint(0, bytearray())
+
+    def test_only_writable_words(self):
+        for table in (bytes(32), bytearray(32), array("I", bytes(32)), memoryview(capgauze.words(8))[::2]):
+            with self.assertRaises(TypeError):
+                capgauze.read_message(b"\x00\x00", table)
+        with self.assertRaises(TypeError):
+            capgauze.encode_varint(0, b"12")
+
+    def test_numbers_that_do_not_fit(self):
+        buf = bytearray(b"\xA5" * 9)
+        for call, arguments in [(capgauze.encoded_len_varint, (2**64,)), (capgauze.encoded_len_varint, (-1,)),
+                                (capgauze.i64_to_unsigned, (2**63,)), (capgauze.decode_varint, (b"\x00", -1)),
+                                (capgauze.pick, (b"", 2**32)), (capgauze.encode_varint, (-1, buf))]:
+            with self.assertRaises(OverflowError):
+                call(*arguments)
+        self.assertEqual(buf, b"\xA5" * 9)
+
+
+if __name__ == "__main__":
+    unittest.main()
