@@ -1,0 +1,77 @@
+/* What the driver and the peers share. A peer is a file that registers its jobs before main. */
+#ifndef BENCH_H
+#define BENCH_H
+#include <stddef.h>
+#include <stdint.h>
+#ifdef __cplusplus
+extern "C" {
+#endif
+
+#define REFUSED UINT64_MAX
+#define NOT_DONE (UINT64_MAX - 1) /* the peer has no such job for this load */
+#define SLACK 64                  /* bytes that may be touched behind a load and a buffer, for peers that look ahead */
+#define MESSAGE_LIMIT 65535
+#define RECORD 4 /* words a record: tag, type, value or payload's start, length */
+
+/* One load: the same fields in two formats, and the records that a table reader must make of them. */
+typedef struct Load {
+    const char *name;
+    const uint8_t *bytes; /* bilrost */
+    size_t len;
+    const uint8_t *pb; /* protobuf */
+    size_t pb_len;
+    int good;          /* 0: every reader must refuse it */
+    int deep;          /* 1: each payload is read as a message too */
+    size_t fields;     /* of the message */
+    size_t all_fields; /* with those of its payloads, where deep */
+    const uint64_t *records;
+} Load;
+
+/* What a job may use, made before a clock runs. */
+typedef struct Work {
+    uint64_t *table; /* room for every field of the load; for a writer its records */
+    size_t table_words;
+    uint64_t *inner; /* a second table, for the payloads of a deep load */
+    size_t inner_words;
+    uint8_t *out; /* a buffer of out_len bytes */
+    size_t out_len;
+    const uint8_t *wrote; /* set by a writer: where its bytes lie */
+    void *own;            /* what prepare returned */
+} Work;
+
+typedef enum { READ, WRITE, PREPEND, MEASURE, FLOOR } Kind;
+
+typedef struct Job {
+    Kind kind;
+    const char *name; /* the peer */
+    int fills;        /* a reader whose records stand in work->table, where they are compared */
+    int keeps;        /* nothing is touched that document 01 says stays: a refused read's table, what is behind a buffer */
+    int pb;           /* works on the protobuf bytes */
+    void *(*prepare)(const Load *, Work *);
+    /* A reader: the number of fields, or REFUSED. A writer or a measurer: the length. */
+    uint64_t (*run)(const Load *, Work *);
+} Job;
+
+void bench_register(const Job *job);
+
+#define REGISTER(id, ...)                                          \
+    __attribute__((constructor)) static void register_##id(void) { \
+        static const Job job = {__VA_ARGS__};                      \
+        bench_register(&job);                                      \
+    }
+
+/* A load read by a table reader; each payload too, where it is deep. */
+typedef uint64_t (*TableReader)(const uint8_t *, size_t, uint64_t *, size_t);
+
+static inline uint64_t read_deep(TableReader read, const Load *l, Work *w) {
+    uint64_t n = read(l->bytes, l->len, w->table, w->table_words), all = n;
+    if (!l->deep || n == REFUSED) return n;
+    for (const uint64_t *row = w->table, *stop = row + RECORD * n; row < stop; row += RECORD)
+        if (row[1] == 1) all += read(l->bytes + row[2], row[3], w->inner, w->inner_words);
+    return all;
+}
+
+#ifdef __cplusplus
+}
+#endif
+#endif

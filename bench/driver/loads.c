@@ -1,0 +1,175 @@
+/* The loads, each from a fixed seed. Both formats are written here by plain loops; the driver compares the bilrost bytes
+ * with what the writers make of the records. */
+#include "loads.h"
+#include <stdlib.h>
+#include <string.h>
+
+static uint64_t state; /* splitmix64 */
+static uint64_t next(void) {
+    uint64_t z = (state += 0x9E3779B97F4A7C15u);
+    z = (z ^ (z >> 30)) * 0xBF58476D1CE4E5B9u;
+    z = (z ^ (z >> 27)) * 0x94D049BB133111EBu;
+    return z ^ (z >> 31);
+}
+static uint64_t below(uint64_t n) { return next() % n; }
+
+static const uint64_t LIMIT[9] = {0, 0x80, 0x4080, 0x204080, 0x10204080, 0x810204080,
+                                  0x40810204080, 0x2040810204080, 0x102040810204080};
+
+typedef struct {
+    uint8_t *p;
+    size_t n, room;
+} Bytes;
+static void put(Bytes *b, uint8_t x) {
+    if (b->n == b->room) b->p = realloc(b->p, b->room = b->room ? 2 * b->room : 256);
+    b->p[b->n++] = x;
+}
+static void put_all(Bytes *b, const Bytes *from) {
+    for (size_t i = 0; i < from->n; i++) put(b, from->p[i]);
+}
+static void put_bilrost(Bytes *b, uint64_t v) {
+    for (int i = 0; i < 8; i++) {
+        if (v < 0x80) {
+            put(b, v);
+            return;
+        }
+        put(b, (v & 0x7F) | 0x80);
+        v = (v >> 7) - 1;
+    }
+    put(b, v);
+}
+static void put_protobuf(Bytes *b, uint64_t v) {
+    for (; v >= 0x80; v >>= 7) put(b, v | 0x80);
+    put(b, v);
+}
+
+/* A message being made, in both formats. */
+typedef struct {
+    Bytes bil, pb;
+    uint32_t tag;
+    uint64_t *rec;
+    size_t n, room, inner;
+} Msg;
+static void record(Msg *m, uint64_t type, uint64_t value, uint64_t len) {
+    if (m->n == m->room) m->rec = realloc(m->rec, 8 * RECORD * (m->room = m->room ? 2 * m->room : 64));
+    const uint64_t row[RECORD] = {m->tag, type, value, len};
+    memcpy(m->rec + RECORD * m->n++, row, sizeof row);
+}
+static void key(Msg *m, uint32_t rise, unsigned type) {
+    static const unsigned PB[4] = {0, 2, 5, 1};
+    m->tag += rise;
+    put_bilrost(&m->bil, 4 * (uint64_t)rise + type);
+    put_protobuf(&m->pb, 8 * (uint64_t)m->tag + PB[type]);
+}
+static void varint(Msg *m, uint32_t rise, uint64_t v) {
+    key(m, rise, 0);
+    put_bilrost(&m->bil, v);
+    put_protobuf(&m->pb, v);
+    record(m, 0, v, 0);
+}
+static void payload(Msg *m, uint32_t rise, const Bytes *bil, const Bytes *pb) {
+    key(m, rise, 1);
+    put_bilrost(&m->bil, bil->n);
+    put_protobuf(&m->pb, pb->n);
+    record(m, 1, m->bil.n, bil->n);
+    put_all(&m->bil, bil);
+    put_all(&m->pb, pb);
+}
+static void fixed(Msg *m, uint32_t rise, unsigned size, uint64_t v) {
+    unsigned type = size == 4 ? 2 : 3;
+    if (size == 4) v &= 0xFFFFFFFFu;
+    key(m, rise, type);
+    for (unsigned i = 0; i < size; i++) put(&m->bil, v >> 8 * i), put(&m->pb, v >> 8 * i);
+    record(m, type, v, size);
+}
+static void random_payload(Msg *m, uint32_t rise, size_t n) {
+    Bytes b = {0};
+    while (b.n < n) put(&b, next());
+    payload(m, rise, &b, &b);
+}
+
+static uint64_t of_len(unsigned n) { /* a number of n bytes */
+    uint64_t low = LIMIT[n - 1], high = n == 9 ? UINT64_MAX : LIMIT[n];
+    return low + next() % (high - low);
+}
+static uint64_t mixed(void) {
+    uint64_t k = below(100);
+    return of_len(k < 80 ? 1 : k < 95 ? 2 + below(2) : 4 + below(6));
+}
+static uint32_t rise(const Msg *m) { return m->n == 0 ? 1 : below(16) == 0; } /* mostly repeated tags */
+
+static Msg sounding(void) {
+    Msg m = {0};
+    varint(&m, 1, 11035);
+    varint(&m, 1, 1763164800);
+    for (int i = 0; i < 120; i++) {
+        Msg level = {0};
+        varint(&level, 1, 101325 - 830 * i - below(100));
+        varint(&level, 1, below(20) == 0 ? UINT64_MAX : below(1200));
+        varint(&level, 1, below(8) == 0 ? UINT64_MAX : below(600));
+        m.inner += level.n;
+        payload(&m, i == 0, &level.bil, &level.pb);
+    }
+    return m;
+}
+static Msg one_byte_varints(void) {
+    Msg m = {0};
+    while (m.bil.n + 12 <= MESSAGE_LIMIT) varint(&m, rise(&m), of_len(1));
+    while (m.bil.n + 2 <= MESSAGE_LIMIT) varint(&m, 0, 7);
+    return m;
+}
+static Msg mixed_varints(void) {
+    Msg m = {0};
+    while (m.bil.n + 12 <= MESSAGE_LIMIT) varint(&m, rise(&m), mixed());
+    varint(&m, 0, 300); /* two bytes, so that a cut falls into the last value */
+    return m;
+}
+static Msg payloads(void) {
+    Msg m = {0};
+    for (int i = 0; i < 60; i++) random_payload(&m, i % 4 == 0, 1024);
+    return m;
+}
+static Msg fixed_values(void) {
+    Msg m = {0};
+    for (int i = 0; m.bil.n + 9 <= MESSAGE_LIMIT; i++) fixed(&m, rise(&m), i % 2 ? 8 : 4, next());
+    return m;
+}
+static Msg all_types(void) {
+    Msg m = {0};
+    while (m.bil.n + 40 <= MESSAGE_LIMIT) switch (below(4)) {
+        case 0: varint(&m, rise(&m), mixed()); break;
+        case 1: random_payload(&m, rise(&m), below(32)); break;
+        case 2: fixed(&m, rise(&m), 4, next()); break;
+        default: fixed(&m, rise(&m), 8, next());
+        }
+    return m;
+}
+static Msg tiny(void) {
+    Msg m = {0};
+    varint(&m, 1, 7);
+    varint(&m, 1, 100000);
+    random_payload(&m, 1, 4);
+    fixed(&m, 1, 4, next());
+    varint(&m, 1, 1);
+    return m;
+}
+
+static Load load(const char *name, uint64_t seed, Msg make(void), int good, int deep) {
+    state = seed;
+    Msg m = make();
+    Load l = {.name = name, .good = good, .deep = deep, .fields = m.n, .all_fields = m.n + (deep ? m.inner : 0),
+              .records = m.rec, .len = m.bil.n - !good, .pb_len = m.pb.n - !good};
+    l.bytes = memcpy(calloc(1, l.len + SLACK), m.bil.p, l.len);
+    l.pb = memcpy(calloc(1, l.pb_len + SLACK), m.pb.p, l.pb_len);
+    return l;
+}
+
+size_t make_loads(Load *out) {
+    const Load all[] = {
+        load("S", 1, sounding, 1, 0),         load("SN", 1, sounding, 1, 1),     load("V1", 2, one_byte_varints, 1, 0),
+        load("VM", 3, mixed_varints, 1, 0),   load("P", 4, payloads, 1, 0),      load("F", 5, fixed_values, 1, 0),
+        load("X", 6, all_types, 1, 0),        load("T", 7, tiny, 1, 0),          load("B", 3, mixed_varints, 0, 0),
+    };
+    memcpy(out, all, sizeof all);
+    return sizeof all / sizeof *all;
+}

@@ -1,0 +1,83 @@
+/* The jobs of the Rust peers (rust.rs), and two floors. */
+#include "../driver/bench.h"
+#include <string.h>
+
+typedef struct {
+    const uint8_t *source;
+    size_t source_len;
+    const uint64_t *table;
+    size_t words;
+} Lent;
+
+uint64_t rust_owned_read(const uint8_t *, size_t, _Bool deep);
+uint64_t rust_borrowed_read(const uint8_t *, size_t, _Bool deep);
+uint64_t rust_walk(const uint8_t *, size_t);
+uint64_t rust_same_read(const uint8_t *, size_t, uint64_t *, size_t);
+uint64_t rust_once_read(const uint8_t *, size_t, uint64_t *, size_t);
+void *rust_held(const uint8_t *, size_t);
+uint64_t rust_opaque_encode(void *held, const uint8_t **wrote);
+uint64_t rust_opaque_encode_slice(void *held, uint8_t *, size_t);
+uint64_t rust_opaque_prepend(void *held, const uint8_t **wrote);
+uint64_t rust_opaque_len(void *held);
+void *rust_reverse(size_t);
+uint64_t rust_table_encode(const Lent *, uint8_t *, size_t);
+uint64_t rust_same_encode(const Lent *, uint8_t *, size_t);
+uint64_t rust_table_prepend(const Lent *, void *reverse, const uint8_t **wrote);
+uint64_t rust_same_prepend(const Lent *, void *reverse, const uint8_t **wrote);
+uint64_t rust_table_len(const Lent *);
+uint64_t rust_same_len(const Lent *);
+
+/* A job, named by its own function. */
+#define JOB(id) static uint64_t id(const Load *l, Work *w)
+#define NONE (void)l, (void)w
+
+JOB(owned) { NONE; return rust_owned_read(l->bytes, l->len, l->deep); }
+JOB(borrowed) { NONE; return rust_borrowed_read(l->bytes, l->len, l->deep); }
+JOB(walk) { NONE; return l->deep ? NOT_DONE : rust_walk(l->bytes, l->len); }
+JOB(same) { return read_deep(rust_same_read, l, w); }
+JOB(once) { return read_deep(rust_once_read, l, w); }
+REGISTER(1, .kind = READ, .name = "rust-owned", .run = owned)
+REGISTER(2, .kind = READ, .name = "rust-borrowed", .run = borrowed)
+REGISTER(3, .kind = READ, .name = "rust-walk", .run = walk)
+REGISTER(4, .kind = READ, .name = "rust-same", .fills = 1, .keeps = 1, .run = same)
+REGISTER(5, .kind = READ, .name = "rust-once", .fills = 1, .run = once)
+
+static void *held(const Load *l, Work *w) { NONE; return rust_held(l->bytes, l->len); }
+static void *reverse(const Load *l, Work *w) { NONE; return rust_reverse(l->len); }
+static Lent lent(const Load *l, const Work *w) { return (Lent){l->bytes, l->len, w->table, w->table_words}; }
+
+JOB(opaque_vec) { NONE; return rust_opaque_encode(w->own, &w->wrote); }
+JOB(opaque_slice) { NONE; w->wrote = w->out; return rust_opaque_encode_slice(w->own, w->out, w->out_len); }
+JOB(table_encode) { Lent from = lent(l, w); w->wrote = w->out; return rust_table_encode(&from, w->out, w->out_len); }
+JOB(same_encode) { Lent from = lent(l, w); w->wrote = w->out; return rust_same_encode(&from, w->out, w->out_len); }
+REGISTER(6, .kind = WRITE, .name = "rust-opaque-vec", .prepare = held, .run = opaque_vec)
+REGISTER(7, .kind = WRITE, .name = "rust-opaque-slice", .prepare = held, .run = opaque_slice)
+REGISTER(8, .kind = WRITE, .name = "rust-table", .run = table_encode)
+REGISTER(9, .kind = WRITE, .name = "rust-same", .keeps = 1, .run = same_encode)
+
+JOB(opaque_prepend) { NONE; return rust_opaque_prepend(w->own, &w->wrote); }
+JOB(table_prepend) { Lent from = lent(l, w); return rust_table_prepend(&from, w->own, &w->wrote); }
+JOB(same_prepend) { Lent from = lent(l, w); return rust_same_prepend(&from, w->own, &w->wrote); }
+REGISTER(10, .kind = PREPEND, .name = "rust-opaque", .prepare = held, .run = opaque_prepend)
+REGISTER(11, .kind = PREPEND, .name = "rust-table", .prepare = reverse, .run = table_prepend)
+REGISTER(12, .kind = PREPEND, .name = "rust-same", .prepare = reverse, .run = same_prepend)
+
+JOB(opaque_len) { NONE; return rust_opaque_len(w->own); }
+JOB(table_len) { Lent from = lent(l, w); return rust_table_len(&from); }
+JOB(same_len) { Lent from = lent(l, w); return rust_same_len(&from); }
+REGISTER(13, .kind = MEASURE, .name = "rust-opaque", .prepare = held, .run = opaque_len)
+REGISTER(14, .kind = MEASURE, .name = "rust-table", .run = table_len)
+REGISTER(15, .kind = MEASURE, .name = "rust-same", .run = same_len)
+
+/* Floors: a copy of the bytes; the stores of a table reader alone. */
+JOB(copy) { memcpy(w->out, l->bytes, l->len); return l->len; }
+JOB(stores) {
+    uint64_t *row = w->table;
+    for (size_t i = 0; i < l->fields; i++, row += RECORD) {
+        row[0] = i, row[1] = 0, row[2] = i, row[3] = 0;
+        __asm__ volatile("" ::: "memory");
+    }
+    return l->fields;
+}
+REGISTER(16, .kind = FLOOR, .name = "memcpy", .run = copy)
+REGISTER(17, .kind = FLOOR, .name = "table-stores", .run = stores)

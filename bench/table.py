@@ -1,0 +1,64 @@
+#!/usr/bin/env python3
+"""table.py LOADS TIMES COUNTS: one table of what the driver and the counter wrote; either of the last two may be empty."""
+import sys
+
+KINDS = ["read", "write", "prepend", "measure", "floor"]
+OURS, SAME = "OURS", "rust-same"  # the ratio that the goals are about
+
+
+def rows(path):
+    for line in open(path):
+        label, *numbers = line.split()
+        yield tuple(label.split("/")), [float(number) for number in numbers]
+
+
+def main(loads, times, counts):
+    size = {name: numbers for (name,), numbers in rows(loads)}
+    best, worst, median, count = {}, {}, {}, {}
+    for key, (low, middle) in rows(times):
+        best[key] = min(best.get(key, low), low)
+        worst[key] = max(worst.get(key, low), low)
+        median[key] = min(median.get(key, middle), middle)
+    for key, (total, reps) in rows(counts):
+        count[key] = total / reps
+    keys = {**best, **count}
+    jobs = sorted(dict.fromkeys(key[:2] for key in keys), key=lambda job: (KINDS.index(job[0]), job[1] != OURS))
+    shown = [name for name in size if any(key[2] == name for key in keys)]
+
+    def line(head, cells):
+        print(f"{head:<18}" + "".join(f"{cell:>11}" for cell in cells))
+
+    def part(title, cell, digits, only=lambda kind, peer: True):
+        print(f"\n{title}")
+        last = None
+        for kind, peer in (job for job in jobs if only(*job)):
+            if kind != last:
+                print(f"-- {kind}")
+                last = kind
+            numbers = [cell((kind, peer, name)) for name in shown]
+            line(peer, ("." if number is None else f"{number:.{digits(number)}f}" for number in numbers))
+
+    def whole(number):
+        return 1 if number < 1000 else 0
+
+    def over(numbers, others):
+        return lambda key: numbers[key] / others(key) if key in numbers and others(key) else None
+
+    line("load", shown)
+    for i, title in enumerate(("bytes", "protobuf bytes", "fields")):
+        line(title, (f"{size[name][i]:.0f}" for name in shown))
+    fields = lambda key: size[key[2]][2]
+    ours = lambda kind, peer: peer == OURS
+    for what, numbers, digits in (("nanoseconds", best, 2), ("instructions", count, 1)):
+        if not numbers:
+            continue
+        part(f"{what} a message", numbers.get, whole)
+        part(f"{what} a field", over(numbers, fields), lambda _: digits)
+        part(f"{what}: ours over the same job by the Rust's functions ({SAME})",
+             over(numbers, lambda key: numbers.get((key[0], SAME, key[2]))), lambda _: 2, ours)
+    if best:
+        part("layout: the worst layout's best over the best", over(worst, best.get), lambda _: 2)
+        part("noise: median over best", over(median, best.get), lambda _: 2)
+
+
+main(*sys.argv[1:])
