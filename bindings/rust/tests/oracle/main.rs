@@ -128,10 +128,10 @@ impl Against {
     fn long_ones(&mut self) -> Vec<u8> {
         let s = self.chance.long_slice();
         let (start, cut) = (self.chance.below(3), self.chance.one(&[0, 1, 5, 60_000]));
-        let length = (s.len() - start).saturating_sub(cut) as u64;
+        let length = s.len().saturating_sub(start + cut) as u64;
         self.payload(&s, [0, 1, start as u64, length]);
 
-        let part = &s[..self.chance.one(&[1_000, 2_000])];
+        let part = &s[..self.chance.one(&[1_000, 2_000]).min(s.len())];
         let times = LIMIT / (part.len() + 3);
         let mut table = [0, 1, 0, part.len() as u64].repeat(times);
         let spare = LIMIT - times * (part.len() + 3);
