@@ -45,7 +45,7 @@ typedef struct Job {
     Kind kind;
     const char *name; /* the peer */
     int fills;        /* a reader whose records stand in work->table, where they are compared */
-    int keeps;        /* nothing is touched that document 01 says stays: a refused read's table, what is behind a buffer */
+    int keeps;        /* nothing is touched that the paper says stays: a refused read's table, what is behind a buffer */
     int pb;           /* works on the protobuf bytes */
     void *(*prepare)(const Load *, Work *);
     /* A reader: the number of fields, or REFUSED. A writer or a measurer: the length. */

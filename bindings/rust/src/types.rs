@@ -140,7 +140,7 @@ pub enum Refusal {
 }
 
 impl Refusal {
-    /// Its number in document 01.
+    /// Its number in the paper.
     pub fn number(self) -> u64 {
         self as u64
     }
