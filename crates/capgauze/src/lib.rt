@@ -17,10 +17,10 @@ ghost use Rattle.capgauze.specs.Varints.{decodeVarint, decodeVarintCappe
 ghost use Rattle.capgauze.specs.Writers.{encodeMessage, prependMessage, encodedLen, insertRecord};
 use message::Sought;
 use wire::Field;
+use wire::Inserted;
 use wire::Key;
 use wire::KeyFound;
 use wire::Reached;
-use wire::Inserted;
 use wire::Read;
 use wire::Record;
 use wire::Refusal;

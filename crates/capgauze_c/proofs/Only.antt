@@ -3,7 +3,7 @@ use mathlib.Core.Path.{_∙_, sym}
 use denote.Ref.{now}
 use Rattle.wire.specs.Only.{One}
 use Rattle.capgauze.specs.Told as told
-use Rattle.capgauze_c.specs.Words.{Lent, asNumber, asVarint, asKey, asValue, asPlace, asStep, asRead, asPicked, asPart}
+use Rattle.capgauze_c.specs.Words.{Lent, asNumber, asVarint, asKey, asValue, asPlace, asStep, asRead, asPicked, asPart, asWritten}
 use Rattle.capgauze_c.proofs.capgauze_encoded_len_varint.Kinds as encoded-len-varint
 use Rattle.capgauze_c.proofs.capgauze_encoded_len_varint.Reads as encoded-len-varint-reads
 use Rattle.capgauze_c.proofs.capgauze_i64_to_unsigned.Kinds as i64-to-unsigned
@@ -40,6 +40,14 @@ use Rattle.capgauze_c.proofs.capgauze_read_payload.Kinds as read-payloa
 use Rattle.capgauze_c.proofs.capgauze_read_payload.Reads as read-payload-reads
 use Rattle.capgauze_c.proofs.capgauze_pick.Kinds as pick
 use Rattle.capgauze_c.proofs.capgauze_pick.Reads as pick-reads
+use Rattle.capgauze_c.proofs.capgauze_encode_message.Kinds as encode-message
+use Rattle.capgauze_c.proofs.capgauze_encode_message.Reads as encode-message-reads
+use Rattle.capgauze_c.proofs.capgauze_prepend_message.Kinds as prepend-message
+use Rattle.capgauze_c.proofs.capgauze_prepend_message.Reads as prepend-message-reads
+use Rattle.capgauze_c.proofs.capgauze_encoded_len_message.Kinds as encoded-len-message
+use Rattle.capgauze_c.proofs.capgauze_encoded_len_message.Reads as encoded-len-message-reads
+use Rattle.capgauze_c.proofs.capgauze_insert.Kinds as insert
+use Rattle.capgauze_c.proofs.capgauze_insert.Reads as insert-reads
 
 pub encoded-len-varint-one : One 0 encoded-len-varint.ps encoded-len-varint.r encoded-len-varint-reads.Post (λ κs r s. r)
 encoded-len-varint-one κs a x y s t p q = p ∙ sym q
@@ -94,3 +102,15 @@ read-payload-one κs a x y s t p q = p ∙ sym q
 
 pub pick-one : One 1 pick.ps pick.r pick-reads.Post (λ κs r s. asPicked r)
 pick-one κs a x y s t p q = p ∙ sym q
+
+pub encode-message-one : One 3 encode-message.ps encode-message.r encode-message-reads.Post {S = Lent told.Wrote} (λ κs r s. record { told = asWritten r; lent = now (s .1 .1 .1 .0) })
+encode-message-one κs a x y s t p q = p ∙ sym q
+
+pub prepend-message-one : One 3 prepend-message.ps prepend-message.r prepend-message-reads.Post {S = Lent told.Wrote} (λ κs r s. record { told = asWritten r; lent = now (s .1 .1 .1 .0) })
+prepend-message-one κs a x y s t p q = p ∙ sym q
+
+pub encoded-len-message-one : One 2 encoded-len-message.ps encoded-len-message.r encoded-len-message-reads.Post (λ κs r s. asWritten r)
+encoded-len-message-one κs a x y s t p q = p ∙ sym q
+
+pub insert-one : One 2 insert.ps insert.r insert-reads.Post {S = Lent told.Number} (λ κs r s. record { told = asNumber r; lent = now (s .1 .0) })
+insert-one κs a x y s t p q = p ∙ sym q

@@ -4,7 +4,9 @@ use mathlib.Core.Path.{_≡_, refl}
 use mathlib.Core.List.{List}
 use native.Mathlib.Omega.{arith}
 use Rattle.capgauze.specs.Told as told
-use Rattle.capgauze.specs.Told.{putTold, readTold}
+use Rattle.capgauze.specs.Told.{putTold, readTold, writtenTold, insertedTold}
+use Rattle.wire.specs.Writing.{Writing}
+use Rattle.wire.specs.Insertion.{Insertion}
 use Rattle.capgauze.specs.Stores.{Stored}
 use Rattle.wire.specs.Numbers.{numberOf}
 use Rattle.wire.specs.declared.Refusal.the-variants.{BadRecord}
@@ -21,6 +23,7 @@ use Rattle.capgauze_c.specs.declared.KeyWords.{KeyWords}
 use Rattle.capgauze_c.specs.declared.ValueWords.{ValueWords}
 use Rattle.capgauze_c.specs.declared.PlaceWords.{PlaceWords}
 use Rattle.capgauze_c.specs.declared.StepWords.{StepWords}
+use Rattle.capgauze_c.specs.declared.WrittenWords.{WrittenWords}
 use Rattle.capgauze_c.specs.declared.Typed.{Typed}
 use Rattle.capgauze_c.specs.declared.Typed.the-variants.{Is, Unknown}
 
@@ -49,6 +52,9 @@ abbrev pub asStep : StepWords → told.Field
 asStep r =
     record { number = r .number; found = r .found; tag = r .tag; type = r .kind; value = r .value; length = r .length; place = r .place }
 
+abbrev pub asWritten : WrittenWords → told.Wrote
+asWritten r = record { number = r .number; start = r .start; length = r .length }
+
 abbrev pub asPart : Part → Span
 asPart p = record { start = p .start; length = p .length }
 
@@ -62,6 +68,12 @@ storedTold o = record { told = putTold (o .answer); lent = o .buf }
 
 abbrev pub outcomeTold : Outcome → Lent told.Message
 outcomeTold o = record { told = readTold (o .answer); lent = o .table }
+
+abbrev pub writingTold : Writing → Lent told.Wrote
+writingTold o = record { told = writtenTold (o .answer); lent = o .buf }
+
+abbrev pub insertionTold : Insertion → Lent told.Number
+insertionTold o = record { told = insertedTold (o .answer); lent = o .table }
 
 -- a told answer in words, with what is lent beside it
 pub handed : {A : Type 0} {t u : A} {l : List ℕ} {o : Lent A} → t ≡ u → _≡_ {A = Lent A} (record { told = u; lent = l }) o → _≡_ {A = Lent A} (record { told = t; lent = l }) o

@@ -7,12 +7,13 @@ ghost use Rattle.wire.specs.Table.{kindWord, valueWord, lengthWord};
 ghost use Rattle.wire.specs.Varint.{encode};
 ghost use Rattle.wire.specs.Signed.{toUnsigned, toSigned};
 ghost use Rattle.message.specs.Payload.{spanOf};
-ghost use Rattle.capgauze.specs.Told.{putTold, varintTold, readTold, pickedTold, measuredTold, keyTold, valueTold, skippedTold, stepTold};
+ghost use Rattle.capgauze.specs.Told.{putTold, varintTold, readTold, pickedTold, measuredTold, keyTold, valueTold, skippedTold, stepTold, writtenTold, insertedTold};
+ghost use Rattle.capgauze.specs.Writers.{encodeMessage, prependMessage, encodedLen, insertRecord};
 ghost use Rattle.capgauze.specs.Fields.{decodeKey, keyAtFront, keyAtEnd, keyLen, decodeValue, skipField, stepEntry};
 ghost use Rattle.capgauze.specs.Varints.{decodeVarint, decodeVarintCapped};
 ghost use Rattle.capgauze.specs.Stores.{atFront, atEnd};
 ghost use Rattle.capgauze.specs.Messages.{readEntry, readPayload, pickEntry};
-ghost use Rattle.capgauze_c.specs.Words.{Lent, asNumber, asVarint, asRead, asPicked, asPart, asKey, asValue, asPlace, asStep, typedOf, keyStored, valueTyped, placeTyped, storedTold, outcomeTold};
+ghost use Rattle.capgauze_c.specs.Words.{Lent, asNumber, asVarint, asRead, asPicked, asPart, asWritten, writingTold, insertionTold, asKey, asValue, asPlace, asStep, typedOf, keyStored, valueTyped, placeTyped, storedTold, outcomeTold};
 use capgauze::KeyRead;
 use capgauze::Measured;
 use capgauze::Picked;
@@ -21,11 +22,13 @@ use capgauze::Skipped;
 use capgauze::Step;
 use capgauze::ValueRead;
 use capgauze::VarintRead;
+use wire::Inserted;
 use wire::Read;
 use wire::Record;
 use wire::Refusal;
 use wire::Value;
 use wire::WireType;
+use wire::Written;
 
 // A length or a count.
 #[repr(C)]
@@ -94,6 +97,13 @@ pub struct StepWords {
     pub value: u64,
     pub length: u64,
     pub place: u64,
+}
+
+#[repr(C)]
+pub struct WrittenWords {
+    pub number: u64,
+    pub start: u64,
+    pub length: u64,
 }
 
 // A number as a wire type, if it is one.
@@ -322,6 +332,38 @@ fn measured_words(m: Measured) -> Number
         Measured::Refused(r) => Number {
             number: number_of(r),
             value: 0,
+        },
+    }
+}
+
+fn written_words(w: Written) -> WrittenWords
+    ensures { λ r. ⌜ asWritten r ≡ writtenTold w ⌝ }
+{
+    match w {
+        Written::At(p, n) => WrittenWords {
+            number: 0,
+            start: p as u64,
+            length: n as u64,
+        },
+        Written::Refused(r, p, n) => WrittenWords {
+            number: number_of(r),
+            start: p as u64,
+            length: n as u64,
+        },
+    }
+}
+
+fn inserted_words(i: Inserted) -> Number
+    ensures { λ r. ⌜ asNumber r ≡ insertedTold i ⌝ }
+{
+    match i {
+        Inserted::Count(n) => Number {
+            number: 0,
+            value: n as u64,
+        },
+        Inserted::Refused(r, n) => Number {
+            number: number_of(r),
+            value: n as u64,
         },
     }
 }
@@ -567,4 +609,66 @@ pub extern "C" fn capgauze_pick(s: &[u8], tag: u32) -> PickWords
     ensures { λ r. ⌜ asPicked r ≡ pickedTold (pickEntry (now (s .entry)) tag) ⌝ }
 {
     pick_words(capgauze::pick(s, tag))
+}
+
+// ---- writing
+
+// The message of a table's records at the buffer's front.
+#[no_mangle]
+pub extern "C" fn capgauze_encode_message(
+    source: &[u8],
+    table: &[u64],
+    count: usize,
+    buf: &mut [u8],
+) -> WrittenWords
+    ensures { λ r. ⌜ record { told = asWritten r; lent = now (buf .exit) } ≡ writingTold (encodeMessage (now (source .entry)) (now (table .entry)) count (now (buf .entry))) ⌝ }
+{
+    written_words(capgauze::encode_message(source, table, count, buf))
+}
+
+// The same at the buffer's end.
+#[no_mangle]
+pub extern "C" fn capgauze_prepend_message(
+    source: &[u8],
+    table: &[u64],
+    count: usize,
+    buf: &mut [u8],
+) -> WrittenWords
+    ensures { λ r. ⌜ record { told = asWritten r; lent = now (buf .exit) } ≡ writingTold (prependMessage (now (source .entry)) (now (table .entry)) count (now (buf .entry))) ⌝ }
+{
+    written_words(capgauze::prepend_message(source, table, count, buf))
+}
+
+// How long that message is.
+#[no_mangle]
+pub extern "C" fn capgauze_encoded_len_message(
+    source: &[u8],
+    table: &[u64],
+    count: usize,
+) -> WrittenWords
+    ensures { λ r. ⌜ asWritten r ≡ writtenTold (encodedLen (now (source .entry)) (now (table .entry)) count) ⌝ }
+{
+    written_words(capgauze::encoded_len_message(source, table, count))
+}
+
+// A new record behind all of an equal or lower tag.
+#[no_mangle]
+pub extern "C" fn capgauze_insert(
+    source: &[u8],
+    table: &mut [u64],
+    count: usize,
+    tag: u64,
+    kind: u64,
+    value: u64,
+    length: u64,
+) -> Number
+    ensures { λ r. ⌜ record { told = asNumber r; lent = now (table .exit) } ≡ insertionTold (insertRecord (now (source .entry)) (now (table .entry)) count (record { tag = tag; kind = kind; value = value; length = length })) ⌝ }
+{
+    let r = Record {
+        tag: tag,
+        kind: kind,
+        value: value,
+        length: length,
+    };
+    inserted_words(capgauze::insert(source, table, count, r))
 }
