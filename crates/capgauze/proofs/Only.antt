@@ -39,6 +39,8 @@ use Rattle.capgauze.proofs.wire_type_of.Kinds as wire-type-of
 use Rattle.capgauze.proofs.wire_type_of.Reads as wire-type-of-reads
 use Rattle.capgauze.proofs.wire_number.Kinds as wire-number
 use Rattle.capgauze.proofs.wire_number.Reads as wire-number-reads
+use Rattle.capgauze.proofs.more_at.Kinds as more-at
+use Rattle.capgauze.proofs.more_at.Reads as more-at-reads
 use Rattle.capgauze.proofs.read_message.Kinds as read-message
 use Rattle.capgauze.proofs.read_message.Reads as read-message-reads
 use Rattle.capgauze.proofs.payload_of.Kinds as payload-of
@@ -82,6 +84,9 @@ wire-type-of-one κs a x y s t p q = p ∙ sym q
 
 pub wire-number-one : One 0 wire-number.ps wire-number.r wire-number-reads.Post (λ κs r s. r)
 wire-number-one κs a x y s t p q = p ∙ sym q
+
+pub more-at-one : One 1 more-at.ps more-at.r more-at-reads.Post (λ κs r s. r)
+more-at-one κs a x y s t p q = p ∙ sym q
 
 pub read-message-one : One 2 read-message.ps read-message.r read-message-reads.Post {S = Outcome} (λ κs r s. record { answer = r; table = now (s .1 .1 .1 .0) })
 read-message-one κs a x y s t p q = p ∙ sym q

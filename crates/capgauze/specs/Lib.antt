@@ -5,3 +5,4 @@ pub mod Varints
 pub mod Fields
 pub mod Messages
 pub mod Writers
+pub mod Test

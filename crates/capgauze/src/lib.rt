@@ -11,6 +11,7 @@ ghost use Rattle.capgauze.specs.Fields.{decodeKey, keyAtFront, keyAtEnd,
 ghost use Rattle.wire.specs.Writing.{Writing};
 ghost use Rattle.wire.specs.Insertion.{Insertion};
 ghost use Rattle.capgauze.specs.Gate.{gated};
+ghost use Rattle.capgauze.specs.Test.{moreEntry};
 ghost use Rattle.capgauze.specs.Messages.{Part, partOf, readEntry, payloadPart, readPayload, pickEntry};
 ghost use Rattle.capgauze.specs.Stores.{Stored, atFront, atEnd};
 ghost use Rattle.capgauze.specs.Varints.{decodeVarint, decodeVarintCapped};
@@ -84,6 +85,13 @@ pub enum Measured {
 pub enum Picked {
     Found(Field),
     Absent,
+    Refused(Refusal),
+}
+
+// Whether a message goes on at a place: before its end, at it, or why not.
+pub enum More {
+    Yes,
+    No,
     Refused(Refusal),
 }
 
@@ -283,6 +291,22 @@ pub fn step_at(s: &[u8], at: usize, end: usize, last: u32) -> Step
         Stepped::End => Step::End,
         Stepped::Refused(r) => Step::Refused(r, at, last),
     }
+}
+
+// Whether a step may be taken at a place: the tests of a step that come before its field.
+pub fn more_at(s: &[u8], at: usize, end: usize) -> More
+    ensures { λ r. ⌜ r ≡ moreEntry (now (s .entry)) at end ⌝ }
+{
+    if let Gated::Shut(r) = gate(s.len(), at, end) {
+        return More::Refused(r);
+    }
+    if at < end {
+        return More::Yes;
+    }
+    if at == end {
+        return More::No;
+    }
+    More::Refused(Refusal::Truncated)
 }
 
 // ---- messages
