@@ -1,7 +1,7 @@
 // A reader that holds a message, its place and its end, with the last tag: `Capped` and `TagReader` of src/encoding/mod.rs of bilrost in
 // one struct. Three thin functions over the entries that take these as plain parameters; a step answers the place and the tag from which
 // the next reader is made.
-ghost use Rattle.reader.specs.Held.{Made, Tested, Stepped};
+ghost use Rattle.reader.specs.Held.{Made, Tested, StepOf, Stepped};
 use capgauze::More;
 use capgauze::Step;
 
@@ -36,4 +36,11 @@ pub fn take_step<'a>(r: Reader<'a>) -> Step
     ensures { λ s. ⌜ Stepped (r .entry) s ⌝ }
 {
     capgauze::step_at(r.message, r.place, r.end, r.last)
+}
+
+// A step through a reader made for it. Its parameters are plain, so that a caller needs no walk.
+pub fn step_through(message: &[u8], place: usize, end: usize, last: u32) -> Step
+    ensures { λ s. ⌜ StepOf (now (message .entry)) place end last s ⌝ }
+{
+    take_step(make(message, place, end, last))
 }
