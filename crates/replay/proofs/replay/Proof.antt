@@ -1,0 +1,90 @@
+use borrow.Author.Needs.{needs}
+use mathlib.Core.Path.{_≡_}
+use lib.ListN.{length}
+use Rattle.replay.proofs.replay.Statement.{statement}
+use Rattle.replay.proofs.replay.Tie as tie
+
+abbrev Inv-loop : tie.InvT-loop
+Inv-loop fd line₀ source₀ table₀ block₀ st₀ turns₀ line source table block st turns = (length line ≡ 4096) × (length source ≡ 65536) × (length table ≡ 131072) × (length block ≡ 4096)
+
+abbrev μ-loop : tie.MeasureT-loop
+μ-loop fd line₀ source₀ table₀ block₀ st₀ turns₀ line source table block st turns = turns
+
+start-requires : tie.Need-start-requires Inv-loop μ-loop
+start-requires c κs = search needs
+
+loop-holds : tie.Need-loop-holds Inv-loop μ-loop
+loop-holds c = search needs
+
+sub-turns : tie.Need-sub-turns Inv-loop μ-loop
+sub-turns c = search needs
+
+slice-aggregate-read : tie.Need-slice-aggregate-read Inv-loop μ-loop
+slice-aggregate-read c = search needs
+
+read-requires : tie.Need-read-requires Inv-loop μ-loop
+read-requires c κs = search needs
+
+slice-aggregate-count : tie.Need-slice-aggregate-count Inv-loop μ-loop
+slice-aggregate-count c = search needs
+
+count-requires : tie.Need-count-requires Inv-loop μ-loop
+count-requires c κs = search needs
+
+sub-feed-all : tie.Need-sub-feed-all Inv-loop μ-loop
+sub-feed-all c = search needs
+
+part-feed-all-start : tie.Need-part-feed-all-start Inv-loop μ-loop
+part-feed-all-start c = search needs
+
+part-feed-all-end : tie.Need-part-feed-all-end Inv-loop μ-loop
+part-feed-all-end c = search needs
+
+slice-aggregate-feed-all : tie.Need-slice-aggregate-feed-all Inv-loop μ-loop
+slice-aggregate-feed-all c = search needs
+
+slice-aggregate-feed-all-2 : tie.Need-slice-aggregate-feed-all-2 Inv-loop μ-loop
+slice-aggregate-feed-all-2 c = search needs
+
+slice-aggregate-feed-all-3 : tie.Need-slice-aggregate-feed-all-3 Inv-loop μ-loop
+slice-aggregate-feed-all-3 c = search needs
+
+feed-all-requires : tie.Need-feed-all-requires Inv-loop μ-loop
+feed-all-requires c κs = search needs
+
+loop-less : tie.Need-loop-less Inv-loop μ-loop
+loop-less c = search needs
+
+loop-again : tie.Need-loop-again Inv-loop μ-loop
+loop-again c = search needs
+
+returns : tie.Need-returns Inv-loop μ-loop
+returns c = search needs
+
+returns-2 : tie.Need-returns-2 Inv-loop μ-loop
+returns-2 c = search needs
+
+pub replay-spec : {M : Type 1} → statement M
+replay-spec =
+    tie.close
+    (tie.spec
+    Inv-loop
+    μ-loop
+    start-requires
+    loop-holds
+    sub-turns
+    slice-aggregate-read
+    read-requires
+    slice-aggregate-count
+    count-requires
+    sub-feed-all
+    part-feed-all-start
+    part-feed-all-end
+    slice-aggregate-feed-all
+    slice-aggregate-feed-all-2
+    slice-aggregate-feed-all-3
+    feed-all-requires
+    loop-less
+    loop-again
+    returns
+    returns-2)
