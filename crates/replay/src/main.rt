@@ -330,6 +330,14 @@ fn three(ours: &mut Words, a: u64, b: u64, c: u64) -> usize {
     3
 }
 
+fn four(ours: &mut Words, a: u64, b: u64, c: u64, d: u64) -> usize {
+    ours[0] = a;
+    ours[1] = b;
+    ours[2] = c;
+    ours[3] = d;
+    4
+}
+
 // Half a word of a sum. The sum's remainder is taken first too, so that nothing is asked of it.
 fn mix(sum: u64, half: u64) -> u64 {
     (sum % 4_294_967_291 * 65_599 + half % 0x1_0000_0000) % 4_294_967_291
@@ -391,7 +399,20 @@ fn seen_or_sum(summed: bool, seen: Seen, ours: &mut Words) -> usize {
     seen.words
 }
 
-// ---- the entries on varints and numbers
+// Whether a letter's answer has the sum of what was lent, and not its words.
+fn is_summed(letter: u8) -> bool {
+    match letter {
+        b'M' | b'W' | b'Q' => true,
+        _ => false,
+    }
+}
+
+// A tag, or a last tag. The list has none of 2^32 or more.
+fn tag_of(w: u64) -> u32 {
+    (w % 0x1_0000_0000) as u32
+}
+
+// ---- the entries on varints, numbers and keys
 
 fn ask_varint(letter: u8, s: &[u8], words: &Words, ours: &mut Words) -> usize {
     let at = words[0] as usize;
@@ -425,7 +446,11 @@ fn ask_number(letter: u8, words: &Words, ours: &mut Words) -> usize {
             0,
             capgauze_c::capgauze_i64_to_unsigned(signed(words[0], words[1])),
         ),
-        _ => signed_words(capgauze_c::capgauze_u64_to_signed(words[0]), ours),
+        b'y' => signed_words(capgauze_c::capgauze_u64_to_signed(words[0]), ours),
+        _ => {
+            let r = capgauze_c::capgauze_key_len(tag_of(words[0]), tag_of(words[1]));
+            two(ours, r.number, r.value)
+        }
     }
 }
 
@@ -452,13 +477,23 @@ fn put_told(back: bool, number: u64, length: u64, buf: &[u8], ours: &mut Words) 
 }
 
 fn put_into(letter: u8, words: &Words, buf: &mut [u8], ours: &mut Words) -> usize {
+    let last = tag_of(words[0]);
+    let tag = tag_of(words[1]);
     match letter {
         b'e' => {
             let r = capgauze_c::capgauze_encode_varint(words[0], buf);
             put_told(false, r.number, r.value, buf, ours)
         }
-        _ => {
+        b'p' => {
             let r = capgauze_c::capgauze_prepend_varint(words[0], buf);
+            put_told(true, r.number, r.value, buf, ours)
+        }
+        b'g' => {
+            let r = capgauze_c::capgauze_encode_key(last, tag, words[2], buf);
+            put_told(false, r.number, r.value, buf, ours)
+        }
+        _ => {
+            let r = capgauze_c::capgauze_prepend_key(last, tag, words[2], buf);
             put_told(true, r.number, r.value, buf, ours)
         }
     }
@@ -471,6 +506,37 @@ fn ask_put(letter: u8, room: u64, words: &Words, ours: &mut Words) -> usize {
         return 0;
     }
     put_into(letter, words, &mut buf[0..n], ours)
+}
+
+// ---- the entries on fields
+
+fn ask_field(letter: u8, s: &[u8], words: &Words, ours: &mut Words) -> usize {
+    let at = words[0] as usize;
+    let end = words[1] as usize;
+    match letter {
+        b'k' => {
+            let r = capgauze_c::capgauze_decode_key(s, at, end, tag_of(words[2]));
+            four(ours, r.number, r.tag, r.kind, r.place)
+        }
+        b'd' => {
+            let r = capgauze_c::capgauze_decode_value(s, at, end, words[2]);
+            four(ours, r.number, r.value, r.length, r.place)
+        }
+        b's' => {
+            let r = capgauze_c::capgauze_skip_field(s, at, end, words[2]);
+            two(ours, r.number, r.place)
+        }
+        _ => ask_step(s, at, end, tag_of(words[2]), ours),
+    }
+}
+
+fn ask_step(s: &[u8], at: usize, end: usize, last: u32, ours: &mut Words) -> usize {
+    let r = capgauze_c::capgauze_step_at(s, at, end, last);
+    four(ours, r.number, r.found, r.tag, r.kind);
+    ours[4] = r.value;
+    ours[5] = r.length;
+    ours[6] = r.place;
+    7
 }
 
 // ---- the entries on messages
@@ -509,7 +575,7 @@ fn read_told(
         fill: FILL_WORD,
     };
     let seen = look_at_words(table, part, ours, 3);
-    seen_or_sum(letter == b'M', seen, ours)
+    seen_or_sum(is_summed(letter), seen, ours)
 }
 
 fn ask_read(letter: u8, s: &[u8], table: &mut [u64], words: &Words, ours: &mut Words) -> usize {
@@ -529,7 +595,7 @@ fn ask_payload(s: &[u8], words: &Words, ours: &mut Words) -> usize {
 
 // The list has all fields of a tag, pick the first one: number and found, and where it was found its three words.
 fn ask_pick(s: &[u8], words: &Words, ours: &mut Words) -> usize {
-    let r = capgauze_c::capgauze_pick(s, (words[0] % 0x1_0000_0000) as u32);
+    let r = capgauze_c::capgauze_pick(s, tag_of(words[0]));
     two(ours, r.number, r.found);
     ours[2] = r.kind;
     ours[3] = r.value;
@@ -555,9 +621,9 @@ fn listed(c: Case, words: &mut Words) -> usize {
 fn asked_by(letter: u8) -> usize {
     match letter {
         b'v' | b'x' | b'n' | b'y' => 1,
-        b'c' | b'e' | b'p' | b'z' => 2,
-        b'm' | b'M' => 3,
-        b'o' => 4,
+        b'c' | b'e' | b'p' | b'z' | b'j' => 2,
+        b'k' | b'd' | b's' | b'f' | b'm' | b'M' => 3,
+        b'o' | b'g' | b'h' => 4,
         b'r' => 5,
         _ => BAD,
     }
@@ -575,8 +641,10 @@ fn table_for(letter: u8, words: &Words, now: usize) -> usize {
 fn answer(letter: u8, s: &[u8], table: &mut [u64], words: &Words, ours: &mut Words) -> usize {
     match letter {
         b'v' | b'c' => ask_varint(letter, s, words, ours),
-        b'n' | b'z' | b'y' => ask_number(letter, words, ours),
+        b'n' | b'z' | b'y' | b'j' => ask_number(letter, words, ours),
+        b'k' | b'd' | b's' | b'f' => ask_field(letter, s, words, ours),
         b'e' | b'p' => ask_put(letter, words[1], words, ours),
+        b'g' | b'h' => ask_put(letter, words[3], words, ours),
         b'm' | b'M' | b'r' => ask_read(letter, s, table, words, ours),
         b'o' => ask_payload(s, words, ours),
         _ => ask_pick(s, words, ours),
