@@ -615,16 +615,90 @@ fn listed(c: Case, words: &mut Words) -> usize {
     if 6 < n { 6 } else { n }
 }
 
+// ---- the entries on tables
+
+fn written_told(
+    letter: u8,
+    number: u64,
+    start: u64,
+    length: u64,
+    buf: &[u8],
+    ours: &mut Words,
+) -> usize {
+    three(ours, number, start, length);
+    let part = Part {
+        start: start as usize,
+        length: length as usize,
+        fill: wide(FILL_BYTE),
+    };
+    let seen = look_at_bytes(buf, part, ours, 3);
+    seen_or_sum(is_summed(letter), seen, ours)
+}
+
+fn write_into(
+    letter: u8,
+    s: &[u8],
+    table: &[u64],
+    count: usize,
+    buf: &mut [u8],
+    ours: &mut Words,
+) -> usize {
+    match letter {
+        b'w' | b'W' => {
+            let r = capgauze_c::capgauze_encode_message(s, table, count, buf);
+            written_told(letter, r.number, r.start, r.length, buf, ours)
+        }
+        _ => {
+            let r = capgauze_c::capgauze_prepend_message(s, table, count, buf);
+            written_told(letter, r.number, r.start, r.length, buf, ours)
+        }
+    }
+}
+
+fn ask_write(letter: u8, s: &[u8], table: &[u64], words: &Words, ours: &mut Words) -> usize {
+    let count = words[0] as usize;
+    let n = words[1] as usize;
+    if letter == b'l' {
+        let r = capgauze_c::capgauze_encoded_len_message(s, table, count);
+        return three(ours, r.number, r.start, r.length);
+    }
+    let mut buf = [FILL_BYTE; BUFFER_ROOM];
+    if BUFFER_ROOM < n {
+        return 0;
+    }
+    write_into(letter, s, table, count, &mut buf[0..n], ours)
+}
+
+// The answer has all words of the table.
+fn ask_insert(s: &[u8], table: &mut [u64], words: &Words, ours: &mut Words) -> usize {
+    let r = capgauze_c::capgauze_insert(
+        s,
+        table,
+        words[0] as usize,
+        words[1],
+        words[2],
+        words[3],
+        words[4],
+    );
+    two(ours, r.number, r.value);
+    let part = Part {
+        start: 0,
+        length: table.len(),
+        fill: 0,
+    };
+    look_at_words(table, part, ours, 2).words
+}
+
 // ---- a case
 
 // How many words each letter asks.
 fn asked_by(letter: u8) -> usize {
     match letter {
-        b'v' | b'x' | b'n' | b'y' => 1,
-        b'c' | b'e' | b'p' | b'z' | b'j' => 2,
+        b'v' | b'x' | b'n' | b'y' | b'l' => 1,
+        b'c' | b'e' | b'p' | b'z' | b'j' | b'w' | b'q' | b'W' | b'Q' => 2,
         b'k' | b'd' | b's' | b'f' | b'm' | b'M' => 3,
         b'o' | b'g' | b'h' => 4,
-        b'r' => 5,
+        b'r' | b'i' => 5,
         _ => BAD,
     }
 }
@@ -646,6 +720,8 @@ fn answer(letter: u8, s: &[u8], table: &mut [u64], words: &Words, ours: &mut Wor
         b'e' | b'p' => ask_put(letter, words[1], words, ours),
         b'g' | b'h' => ask_put(letter, words[3], words, ours),
         b'm' | b'M' | b'r' => ask_read(letter, s, table, words, ours),
+        b'w' | b'q' | b'W' | b'Q' | b'l' => ask_write(letter, s, table, words, ours),
+        b'i' => ask_insert(s, table, words, ours),
         b'o' => ask_payload(s, words, ours),
         _ => ask_pick(s, words, ours),
     }
