@@ -3,10 +3,11 @@
 use libc::STDOUT_FILENO;
 use wire::RECORD_WORDS;
 
-// The words of a line, or of an answer: a line has at most 4,096 characters, and a word takes two. In a count of words, WORDS is for none yet,
-// and one more for words that are not in the form.
+// The words of a line, or of an answer: a line has at most 4,096 characters, and a word takes two. So no line has this many, and as the number
+// of words asked it stands for none yet.
 const WORDS: usize = 2_048;
 
+// As the number of words asked: the line is not in the form.
 const BAD: usize = 2_049;
 
 type Words = [u64; WORDS];
@@ -39,6 +40,7 @@ struct Case {
     words: usize,
 }
 
+// What a line is: a title; a letter that sets something, and its words; a case; none of these.
 enum Form {
     Title,
     Sets(u8, usize),
@@ -46,6 +48,7 @@ enum Form {
     Bad,
 }
 
+// A number, and the place after it.
 struct Word {
     value: u64,
     next: usize,
@@ -216,6 +219,7 @@ fn form_of(text: &[u8], words: &mut Words) -> Form {
 
 // ---- lines that set what later ones use
 
+// A word of a line or an answer; 0 behind its end, where none is asked for.
 fn word_of(words: &Words, i: usize) -> u64 {
     if i < WORDS { words[i] } else { 0 }
 }
