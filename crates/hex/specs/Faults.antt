@@ -1,0 +1,142 @@
+-- How a line is decided before it is decoded: a character that is no digit is a fault, and characters without one are worth known numbers.
+use Prim.Native.Nat.{ℕ, _+_, _*_, _/_, _%_, _≤_, _<_, max}
+use mathlib.Core.Path.{_≡_, refl, ap, _∙_, sym}
+use mathlib.Core.List.{List, [], _∷_}
+use native.Mathlib.Omega.{arith}
+use lib.ListN.{length, take}
+use lib.Seq.{sets, length-take-le}
+use Rattle.wire.specs.Choose.{choose}
+use Rattle.hex.specs.Digits.{between, digitOf}
+use Rattle.hex.specs.DigitLaws.{Run, Inside, Outside, runs, figure, capital, small, strange, digital}
+use Rattle.hex.specs.Frame.{Decoded, Decodes, Fails, joined, decoded, lineLimit, framed, frameOf, fitting}
+use Rattle.hex.specs.declared.Digit.{Digit}
+use Rattle.hex.specs.declared.Digit.the-variants.{Value, Other}
+use Rattle.hex.specs.declared.Frame.the-variants.{Bytes, Hex}
+
+-- ---- one character
+
+abbrev pub wrong : Digit → ℕ
+wrong (Value v) = 0
+wrong Other = 1
+
+unfoldable pub faultOf : ℕ → ℕ
+faultOf c = wrong (digitOf c)
+
+-- what a digit is worth: its low four bits, and nine more for a letter
+abbrev pub knownOf : ℕ → ℕ
+knownOf c = c % 16 + c / 64 * 9
+
+pub fault-tests : (c : ℕ) → choose (between 48 58 c) 0 (choose (between 65 71 c) 0 (choose (between 97 103 c) 0 1)) ≡ faultOf c
+unfolding faultOf
+fault-tests c = go (runs 48 58 c) (runs 65 71 c) (runs 97 103 c)
+  where
+    go : Run 48 58 c → Run 65 71 c → Run 97 103 c → choose (between 48 58 c) 0 (choose (between 65 71 c) 0 (choose (between 97 103 c) 0 1)) ≡ faultOf c
+    go (Inside g h t) q r = rw (figure c g h, t)
+    go (Outside p) (Inside g h t) r = rw (capital c g h, p, t)
+    go (Outside p) (Outside q) (Inside g h t) = rw (small c g h, p, q, t)
+    go (Outside p) (Outside q) (Outside r) = rw (strange c p q r, p, q, r)
+
+pub faultless : (c : ℕ) → faultOf c ≡ 0 → digitOf c ≡ Value (knownOf c)
+unfolding faultOf
+faultless c e = go (digitOf c) refl
+  where
+    go : (d : Digit) → digitOf c ≡ d → digitOf c ≡ Value (knownOf c)
+    go (Value v) p = p ∙ ap Value (digital c v p .worth)
+    go Other p = let z : _≡_ {A = ℕ} 1 0 = ap wrong (sym p) ∙ e in absurd (omega arith)
+
+pub faulty : (c : ℕ) → 0 < faultOf c → digitOf c ≡ Other
+unfolding faultOf
+faulty c h = go (digitOf c) refl
+  where
+    go : (d : Digit) → digitOf c ≡ d → digitOf c ≡ Other
+    go (Value v) p = let z : faultOf c ≡ 0 = ap wrong p in absurd (omega arith)
+    go Other p = p
+
+-- ---- a line
+
+unfoldable pub worst : List ℕ → ℕ
+worst [] = 0
+worst (c ∷ cs) = max (faultOf c) (worst cs)
+
+-- the bytes of a line of digits
+unfoldable pub bytesIn : List ℕ → List ℕ
+bytesIn [] = []
+bytesIn (c ∷ []) = []
+bytesIn (c ∷ d ∷ cs) = (16 * knownOf c + knownOf d) ∷ bytesIn cs
+
+pub odd-fails : (cs : List ℕ) → length cs % 2 ≡ 1 → decoded cs ≡ Fails
+unfolding decoded
+odd-fails [] e = absurd (omega arith)
+odd-fails (c ∷ []) e = refl
+odd-fails (c ∷ d ∷ cs) e = rw (odd-fails cs (omega arith)) (last (digitOf c) (digitOf d))
+  where
+    last : (h l : Digit) → joined h l Fails ≡ Fails
+    last (Value h) (Value l) = refl
+    last (Value h) Other = refl
+    last Other l = refl
+
+pub fault-fails : (cs : List ℕ) → 0 < worst cs → decoded cs ≡ Fails
+unfolding decoded worst faultOf
+fault-fails [] h = absurd (omega arith)
+fault-fails (c ∷ []) h = refl
+fault-fails (c ∷ d ∷ cs) h = go (digitOf c) refl (digitOf d) refl (decoded cs) refl (fault-fails cs)
+  where
+    go : (x : Digit) → digitOf c ≡ x → (y : Digit) → digitOf d ≡ y → (r : Decoded) → decoded cs ≡ r → (0 < worst cs → decoded cs ≡ Fails)
+        → joined (digitOf c) (digitOf d) (decoded cs) ≡ Fails
+    go (Value v) p (Value w) q (Decodes bs) r ih =
+        let x : faultOf c ≡ 0 = ap wrong p in
+        let y : faultOf d ≡ 0 = ap wrong q in
+        let z : _≡_ {A = ℕ} 0 1 = cc (ih (omega (arith, h))) in
+        absurd (omega arith)
+    go (Value v) p (Value w) q Fails r ih = rw (p, q, r)
+    go (Value v) p Other q t r ih = rw (p, q)
+    go Other p y q t r ih = rw p
+
+pub good-decodes : (cs : List ℕ) → length cs % 2 ≡ 0 → worst cs ≡ 0 → decoded cs ≡ Decodes (bytesIn cs)
+unfolding decoded worst bytesIn
+good-decodes [] e h = refl
+good-decodes (c ∷ []) e h = absurd (omega arith)
+good-decodes (c ∷ d ∷ cs) e h =
+    rw (faultless c (omega (arith, h)), faultless d (omega (arith, h)), good-decodes cs (omega arith) (omega (arith, h)))
+
+pub length-bytes-in : (cs : List ℕ) → length (bytesIn cs) ≡ length cs / 2
+unfolding bytesIn
+length-bytes-in [] = refl
+length-bytes-in (c ∷ []) = refl
+length-bytes-in (c ∷ d ∷ cs) = omega (arith, length-bytes-in cs)
+
+-- what decoding may rely on: so many bytes' characters are there and without a fault, and the bytes have room
+pub record Decodable (line : List ℕ) (n : ℕ) (out : List ℕ) : Type 0 where
+  pub reach : 2 * n ≤ length line
+  pub clean : worst (take (2 * n) line) ≡ 0
+  pub room : n ≤ length out
+
+-- what a line that fits is answered
+pub record Fitting (line : List ℕ) (chars : ℕ) (out : List ℕ) : Type 0 where
+  pub limit : chars ≤ lineLimit
+  pub reach : chars ≤ length line
+  pub room : chars / 2 ≤ length out
+
+module _ {line : List ℕ} {chars : ℕ} {out : List ℕ} (f : Fitting line chars out) where
+  by-decoded : {d : Decoded} → decoded (take chars line) ≡ d → frameOf line chars out ≡ framed out d
+  by-decoded e = fitting line chars out (f .limit) (f .reach) (f .room) ∙ ap (framed out) e
+
+  pub odd-frame : 0 < chars % 2 → frameOf line chars out ≡ record { answer = Hex; out = out }
+  odd-frame h = by-decoded (odd-fails (take chars line) (omega (arith, length-take-le chars line (f .reach))))
+
+  pub bad-frame : 0 < worst (take chars line) → frameOf line chars out ≡ record { answer = Hex; out = out }
+  bad-frame h = by-decoded (fault-fails (take chars line) h)
+
+  pub good-frame : chars % 2 ≤ 0 → worst (take chars line) ≤ 0
+      → frameOf line chars out ≡ record { answer = Bytes (chars / 2); out = sets out 0 (bytesIn (take (2 * (chars / 2)) line)) }
+  good-frame g h =
+      let cs = take chars line in
+      let n = length-take-le chars line (f .reach) in
+      let e : 2 * (chars / 2) ≡ chars = omega arith in
+      let k : length (bytesIn cs) ≡ chars / 2 = omega (arith, length-bytes-in cs) in
+      by-decoded (good-decodes cs (omega arith) (omega arith)) ∙ rw (e, k)
+
+  pub decodable : chars % 2 ≤ 0 → worst (take chars line) ≤ 0 → Decodable line (chars / 2) out
+  decodable g h =
+      let e : 2 * (chars / 2) ≡ chars = omega arith in
+      record { reach = omega (arith, f .reach); clean = rw e (omega arith); room = f .room }

@@ -1,0 +1,5 @@
+pub mod Digits
+pub mod DigitLaws
+pub mod Frame
+pub mod Faults
+pub mod Trips
