@@ -1,17 +1,20 @@
 -- How a line is decided before it is decoded: a character that is no digit is a fault, and characters without one are worth known numbers.
 use Prim.Native.Nat.{ℕ, _+_, _*_, _/_, _%_, _≤_, _<_, max}
 use mathlib.Core.Path.{_≡_, refl, ap, _∙_, sym}
+use mathlib.Core.Bool.{Bool, true, false}
 use mathlib.Core.List.{List, [], _∷_}
 use native.Mathlib.Omega.{arith}
+use borrow.Author.Tests.{leb-true, leb-false}
 use lib.ListN.{length, take}
-use lib.Seq.{sets, length-take-le}
+use lib.Dec.{leb}
+use lib.Seq.{sets, length-sets, length-take-le}
 use Rattle.wire.specs.Choose.{choose}
 use Rattle.hex.specs.Digits.{between, digitOf}
 use Rattle.hex.specs.DigitLaws.{Run, Inside, Outside, runs, figure, capital, small, strange, digital}
-use Rattle.hex.specs.Frame.{Decoded, Decodes, Fails, joined, decoded, lineLimit, framed, frameOf, fitting}
+use Rattle.hex.specs.Frame.{Decoded, Decodes, Fails, joined, decoded, joins, lineLimit, Framed, framed, tooLong, frameOf, above-limit, above-line, above-out, fitting}
 use Rattle.hex.specs.declared.Digit.{Digit}
 use Rattle.hex.specs.declared.Digit.the-variants.{Value, Other}
-use Rattle.hex.specs.declared.Frame.the-variants.{Bytes, Hex}
+use Rattle.hex.specs.declared.Frame.the-variants.{Bytes, Long, Hex}
 
 -- ---- one character
 
@@ -79,18 +82,16 @@ pub fault-fails : (cs : List ℕ) → 0 < worst cs → decoded cs ≡ Fails
 unfolding decoded worst faultOf
 fault-fails [] h = absurd (omega arith)
 fault-fails (c ∷ []) h = refl
-fault-fails (c ∷ d ∷ cs) h = go (digitOf c) refl (digitOf d) refl (decoded cs) refl (fault-fails cs)
+fault-fails (c ∷ d ∷ cs) h = go (joined (digitOf c) (digitOf d) (decoded cs)) refl (fault-fails cs)
   where
-    go : (x : Digit) → digitOf c ≡ x → (y : Digit) → digitOf d ≡ y → (r : Decoded) → decoded cs ≡ r → (0 < worst cs → decoded cs ≡ Fails)
-        → joined (digitOf c) (digitOf d) (decoded cs) ≡ Fails
-    go (Value v) p (Value w) q (Decodes bs) r ih =
-        let x : faultOf c ≡ 0 = ap wrong p in
-        let y : faultOf d ≡ 0 = ap wrong q in
+    go : (r : Decoded) → joined (digitOf c) (digitOf d) (decoded cs) ≡ r → (0 < worst cs → decoded cs ≡ Fails) → joined (digitOf c) (digitOf d) (decoded cs) ≡ Fails
+    go (Decodes bs) e ih =
+        let j = joins (digitOf c) (digitOf d) (decoded cs) bs e in
+        let x : faultOf c ≡ 0 = ap wrong (j .first) in
+        let y : faultOf d ≡ 0 = ap wrong (j .second) in
         let z : _≡_ {A = ℕ} 0 1 = cc (ih (omega (arith, h))) in
         absurd (omega arith)
-    go (Value v) p (Value w) q Fails r ih = rw (p, q, r)
-    go (Value v) p Other q t r ih = rw (p, q)
-    go Other p y q t r ih = rw p
+    go Fails e ih = e
 
 pub good-decodes : (cs : List ℕ) → length cs % 2 ≡ 0 → worst cs ≡ 0 → decoded cs ≡ Decodes (bytesIn cs)
 unfolding decoded worst bytesIn
@@ -140,3 +141,43 @@ module _ {line : List ℕ} {chars : ℕ} {out : List ℕ} (f : Fitting line char
   decodable g h =
       let e : 2 * (chars / 2) ≡ chars = omega arith in
       record { reach = omega (arith, f .reach); clean = rw e (omega arith); room = f .room }
+
+-- ---- how many bytes a frame has
+
+decoded-half : (cs bs : List ℕ) → decoded cs ≡ Decodes bs → 2 * length bs ≡ length cs
+unfolding decoded
+decoded-half [] bs e = let z : bs ≡ [] = cc in rw z
+decoded-half (c ∷ []) bs e = let z : _≡_ {A = ℕ} 0 1 = cc in absurd (omega arith)
+decoded-half (c ∷ d ∷ cs) bs e =
+    let j = joins (digitOf c) (digitOf d) (decoded cs) bs e in
+    omega (arith, ap length (j .bytes), decoded-half cs (j .rest) (j .behind))
+
+-- bytes that were answered are half of the characters, and all in what was lent
+pub half-frame : (line : List ℕ) (chars : ℕ) (out : List ℕ) (k : ℕ) (b : List ℕ) → record { answer = Bytes k; out = b } ≡ frameOf line chars out
+    → (2 * k ≤ lineLimit) × (k ≤ length b)
+half-frame line chars out k b e = go (leb chars lineLimit) refl (leb chars (length line)) refl (leb (chars / 2) (length out)) refl
+  where
+    no-long : {A : Type 0} → frameOf line chars out ≡ tooLong out → A
+    no-long h = let z : Bytes k ≡ Long = ap (λ (f : Framed). f .answer) (e ∙ h) in let w : _≡_ {A = ℕ} 0 1 = cc in absurd (omega arith)
+
+    half : Fitting line chars out → (d : Decoded) → decoded (take chars line) ≡ d → (2 * k ≤ lineLimit) × (k ≤ length b)
+    half f (Decodes bs) d =
+        let q = e ∙ by-decoded f d in
+        let z : Bytes k ≡ Bytes (length bs) = ap (λ (x : Framed). x .answer) q in
+        let n : k ≡ length bs = cc in
+        let m = decoded-half (take chars line) bs d in
+        let l = length-take-le chars line (f .reach) in
+        let o : length b ≡ length out = ap (λ (x : Framed). length (x .out)) q ∙ length-sets out 0 bs in
+        (omega (arith, f .limit), omega (arith, f .room))
+    half f Fails d =
+        let z : Bytes k ≡ Hex = ap (λ (x : Framed). x .answer) (e ∙ by-decoded f d) in
+        let w : _≡_ {A = ℕ} 0 1 = cc in absurd (omega arith)
+
+    go : (s : Bool) → leb chars lineLimit ≡ s → (t : Bool) → leb chars (length line) ≡ t → (u : Bool) → leb (chars / 2) (length out) ≡ u → (2 * k ≤ lineLimit) × (k ≤ length b)
+    go false s t p u q = no-long (above-limit line chars out (leb-false chars lineLimit s))
+    go true s false t u q = no-long (above-line line chars out (leb-true chars lineLimit s) (leb-false chars (length line) t))
+    go true s true t false u =
+        no-long (above-out line chars out (leb-true chars lineLimit s) (leb-true chars (length line) t) (leb-false (chars / 2) (length out) u))
+    go true s true t true u =
+        half (record { limit = leb-true chars lineLimit s; reach = leb-true chars (length line) t; room = leb-true (chars / 2) (length out) u })
+        (decoded (take chars line)) refl

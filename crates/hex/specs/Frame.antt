@@ -1,7 +1,8 @@
 -- A line of characters as the bytes of a frame.
 use Prim.Native.Nat.{ℕ, _+_, _*_, _/_, _≤_, _<_}
-use mathlib.Core.Path.{_≡_}
+use mathlib.Core.Path.{_≡_, refl}
 use mathlib.Core.List.{List, [], _∷_}
+use native.Mathlib.Omega.{arith}
 use borrow.Author.Tests.{le-leb, lt-leb}
 use lib.Dec.{leb}
 use lib.ListN.{length, take}
@@ -29,6 +30,22 @@ unfoldable pub decoded : List ℕ → Decoded
 decoded [] = Decodes []
 decoded (c ∷ []) = Fails
 decoded (c ∷ d ∷ cs) = joined (digitOf c) (digitOf d) (decoded cs)
+
+-- what is joined to bytes was two digits and bytes
+pub record Joins (x y : Digit) (r : Decoded) (bs : List ℕ) : Type 0 where
+  pub high : ℕ
+  pub low : ℕ
+  pub rest : List ℕ
+  pub first : x ≡ Value high
+  pub second : y ≡ Value low
+  pub behind : r ≡ Decodes rest
+  pub bytes : bs ≡ (16 * high + low) ∷ rest
+
+pub joins : (x y : Digit) (r : Decoded) (bs : List ℕ) → joined x y r ≡ Decodes bs → Joins x y r bs
+joins (Value h) (Value l) (Decodes rs) bs e = record { high = h; low = l; rest = rs; first = refl; second = refl; behind = refl; bytes = cc }
+joins (Value h) (Value l) Fails bs e = let z : _≡_ {A = ℕ} 0 1 = cc in absurd (omega arith)
+joins (Value h) Other r bs e = let z : _≡_ {A = ℕ} 0 1 = cc in absurd (omega arith)
+joins Other y r bs e = let z : _≡_ {A = ℕ} 0 1 = cc in absurd (omega arith)
 
 -- the most characters of a frame's line
 abbrev pub lineLimit : ℕ

@@ -1,0 +1,5 @@
+pub mod Text
+pub mod Room
+pub mod Dump
+pub mod Print
+pub mod Cases
