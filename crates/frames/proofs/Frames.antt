@@ -2,17 +2,15 @@
 use Prim.Native.Nat.{ℕ, _+_, _-_, _*_, _≤_}
 use mathlib.Core.Path.{_≡_, refl, ap, _∙_, sym}
 use mathlib.Core.Bool.{Bool, true, false}
-use mathlib.Core.List.{List, [], _∷_, _++_}
+use mathlib.Core.List.{List, []}
 use native.Mathlib.Omega.{arith}
 use native.Mathlib.Nat.{sub-zero}
 use lib.Dec.{leb}
-use lib.ListN.{length, take, drop, length-append, length-take}
+use lib.ListN.{length, take, drop, length-take}
 use Rattle.wire.specs.Limits.{recordWords}
-use Rattle.wire.specs.Numbers.{numberOf}
-use Rattle.wire.specs.Places.{items}
 use Rattle.wire.specs.Reading.{Message, Fields, readMessage}
 use Rattle.wire.specs.Reading as reading
-use Rattle.wire.specs.Table.{room, filled, fieldsFrom}
+use Rattle.wire.specs.Table.{room, filled}
 use Rattle.wire.specs.declared.Refusal.{Refusal}
 use Rattle.wire.specs.declared.Refusal.the-variants.{NoRoom}
 use Rattle.wire.specs.declared.Field.{Field}
@@ -25,18 +23,12 @@ use Rattle.hex.specs.Faults.{half-frame}
 use Rattle.hex.specs.declared.Frame.{Frame}
 use Rattle.hex.specs.declared.Frame.the-variants.{Bytes}
 use Rattle.capgauze.specs.Messages.{readEntry, entry-open}
-use Rattle.frames.specs.Text.{headed, wordF, wordOK, wordNO, told, fieldsText}
-use Rattle.frames.specs.Room.{sized, told-none, told-two}
-use Rattle.frames.specs.Print.{frameRoom, outcomeText, Roomy, Recorded, Closed, Framable, Messaged, shows, framePrinting, printFrame, print-frame}
-use Rattle.frames.proofs.Fields.{fields-are}
+use Rattle.frames.specs.Text.{told}
+use Rattle.frames.specs.Room.{sized, told-none}
+use Rattle.frames.specs.Print.{frameRoom, answerText, outcomeText, Roomy, Closed, Framable, Messaged, shows, framePrinting, printFrame, print-frame}
+use Rattle.frames.specs.PrintLaws.{outcome-size}
 
 -- ---- an accepted answer is that of fields
-
-pub record Accepts (s t : List ℕ) (e count : ℕ) (t′ : List ℕ) : Type 0 where
-  pub fields : List Field
-  pub read : readMessage s 0 (length s) ≡ Fields fields
-  pub many : count ≡ length fields
-  pub table : t′ ≡ filled t fields
 
 no-accept : {A : Type 0} {r : Refusal} {p n e count : ℕ} → Refused r p n ≡ Accepted e count → A
 no-accept h = let z : _≡_ {A = ℕ} 0 1 = cc in absurd (omega arith)
@@ -59,66 +51,27 @@ landed-accepts e t (reading.Refused r p) x count t′ h = no-accept (sym (ap (λ
 pub answered : {x y : Read} {t : List ℕ} {o : Outcome} → x ≡ y → outcome x t ≡ o → outcome y t ≡ o
 answered {x} {y} {t} e q = ap (λ (z : Read). outcome z t) (sym e) ∙ q
 
-module _ {out : List ℕ} {at : ℕ} {s : List ℕ} (f : Framable out at s) (n : ℕ) (t : List ℕ) where
-  abbrev Answers : Read → List ℕ → Type 0
-  Answers r t′ = outcome r t′ ≡ readEntry s 0 (length s) t
+module _ {out : List ℕ} {at : ℕ} {s : List ℕ} (f : Framable out at s) (n : ℕ) (t : List ℕ) {r : Read} {t′ : List ℕ} (a : outcome r t′ ≡ readEntry s 0 (length s) t) where
+  -- the text of an answer has room, and is what is to be put
+  pub answer-room : Roomy out at (answerText n s t′ r)
+  unfolding outcomeText
+  answer-room = omega (arith, f .room, outcome-size n s t (f .short), ap (λ (o : Outcome). length (outcomeText n s o)) a)
 
-  -- ---- accepted
+  pub answer-put : {m : ℕ} {c : List ℕ} → _≡_ {A = Placed} (record { next = m; buf = c }) (putAt out at (answerText n s t′ r)) → Messaged out at n s t m c t′
+  unfolding outcomeText
+  answer-put p = (p ∙ put-roomy out at (answerText n s t′ r) answer-room ∙ ap (λ (o : Outcome). placed out at (outcomeText n s o)) a, ap (λ (o : Outcome). o .table) a)
 
-  module _ {e count : ℕ} {t′ : List ℕ} (a : Answers (Accepted e count) t′) where
-    pub accepts : Accepts s t e count t′
-    unfolding readInto
-    accepts =
-        let o = entry-open s 0 (length s) t (omega (arith, f .short)) (omega arith) (omega arith) in
-        let x = landed-accepts (length s) t (readMessage s 0 (length s)) e count t′ (a ∙ o) in
-        record { fields = x .0; read = x .1; many = x .2; table = x .3 }
-
-    recorded : Recorded s t′ count
-    recorded =
-        let x = accepts in
-        record {
-          fields = x .fields;
-          rest = drop (recordWords * length (x .fields)) t;
-          listed = x .table;
-          many = x .many;
-          inside = sized n s (x .fields) (x .read) .inside;
-        }
-
-    accepted-room : Roomy out at (fieldsText (headed n wordF) (items s (fieldsFrom count t′ 0)) ++ told n wordOK (count ∷ length s ∷ []))
-    unfolding recorded
-    accepted-room =
-        let x = accepts in
-        let z = sized n s (x .fields) (x .read) .size in
-        let g = ap (λ (l : List Field). length (fieldsText (headed n wordF) (items s l))) (fields-are recorded) in
-        omega (
-          arith,
-          f .room,
-          f .short,
-          z,
-          g,
-          length-append (fieldsText (headed n wordF) (items s (fieldsFrom count t′ 0))) (told n wordOK (count ∷ length s ∷ [])),
-          told-two n wordOK count (length s),
-        )
-
-    pub closed : Closed out at n s t′ count
-    closed = record { has = recorded; room = accepted-room }
-
-    pub accepted-put : {m : ℕ} {c : List ℕ}
-        → _≡_ {A = Placed} (record { next = m; buf = c }) (putAt out at (fieldsText (headed n wordF) (items s (fieldsFrom count t′ 0)) ++ told n wordOK (count ∷ length s ∷ [])))
-        → (_≡_ {A = Placed} (record { next = m; buf = c }) (placed out at (outcomeText n s (readEntry s 0 (length s) t)))) × (t′ ≡ readEntry s 0 (length s) t .table)
-    unfolding outcomeText
-    accepted-put p = (p ∙ put-roomy out at _ accepted-room ∙ rw (← a), ap (λ (o : Outcome). o .table) a)
-
-  -- ---- refused
-
-  pub refused-room : (x p : ℕ) → Roomy out at (told n wordNO (x ∷ p ∷ []))
-  refused-room x p = omega (arith, f .room, told-two n wordNO x p)
-
-  module _ {r : Refusal} {p k : ℕ} {t′ : List ℕ} (a : Answers (Refused r p k) t′) where
-    pub refused-put : {x m : ℕ} {c : List ℕ} → x ≡ numberOf r → _≡_ {A = Placed} (record { next = m; buf = c }) (putAt out at (told n wordNO (x ∷ p ∷ [])))
-        → (_≡_ {A = Placed} (record { next = m; buf = c }) (placed out at (outcomeText n s (readEntry s 0 (length s) t)))) × (t′ ≡ readEntry s 0 (length s) t .table)
-    unfolding outcomeText
-    refused-put {x} q e = (e ∙ put-roomy out at _ (refused-room x p) ∙ rw (q, ← a), ap (λ (o : Outcome). o .table) a)
+-- the records of an accepted message are those of its fields
+pub closed : {out : List ℕ} {at : ℕ} {s : List ℕ} (f : Framable out at s) (n : ℕ) (t : List ℕ) {e count : ℕ} {t′ : List ℕ}
+    → outcome (Accepted e count) t′ ≡ readEntry s 0 (length s) t → Closed out at n s t′ count
+unfolding readInto
+closed {out} {at} {s} f n t {e} {count} {t′} a =
+    let o = entry-open s 0 (length s) t (omega (arith, f .short)) (omega arith) (omega arith) in
+    let x = landed-accepts (length s) t (readMessage s 0 (length s)) e count t′ (a ∙ o) in
+    record {
+      has = record { fields = x .0; rest = drop (recordWords * length (x .0)) t; listed = x .3; many = x .2; inside = sized n s (x .0) (x .1) .inside };
+      room = answer-room f n t a;
+    }
 
 -- ---- a line: what was put of it, and what else is left
 

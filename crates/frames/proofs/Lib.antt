@@ -1,3 +1,4 @@
 pub mod Puts
 pub mod Fields
 pub mod Frames
+pub mod Only

@@ -144,7 +144,7 @@ module _ {line : List ℕ} {chars : ℕ} {out : List ℕ} (f : Fitting line char
 
 -- ---- how many bytes a frame has
 
-decoded-half : (cs bs : List ℕ) → decoded cs ≡ Decodes bs → 2 * length bs ≡ length cs
+pub decoded-half : (cs bs : List ℕ) → decoded cs ≡ Decodes bs → 2 * length bs ≡ length cs
 unfolding decoded
 decoded-half [] bs e = let z : bs ≡ [] = cc in rw z
 decoded-half (c ∷ []) bs e = let z : _≡_ {A = ℕ} 0 1 = cc in absurd (omega arith)

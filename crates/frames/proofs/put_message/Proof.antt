@@ -1,5 +1,5 @@
 -- `frames::put_message` meets its contract.
-use Rattle.frames.proofs.Frames.{answered, closed, accepted-put, refused-room, refused-put}
+use Rattle.frames.proofs.Frames.{answered, answer-room, answer-put, closed}
 use borrow.Author.Needs.{needs}
 use Rattle.frames.proofs.put_message.Statement.{statement}
 use Rattle.frames.proofs.put_message.Tie as tie
@@ -17,7 +17,9 @@ number-of-requires : tie.Need-number-of-requires
 number-of-requires c κs = search needs
 
 put-told-requires : tie.Need-put-told-requires
-put-told-requires c κs = let s = c .before .before .before .before .before .before .before .before .before .before .before .before .before in refused-room (s .pre) (s .args .n) (s .args .table .now) _ _
+put-told-requires c κs =
+    let s = c .before .before .before .before .before .before .before .before .before .before .before .before .before in
+    rw (c .number-of .ensures) (answer-room (s .pre) (s .args .n) (s .args .table .now) (answered (c .before .before .before .before .r .given .1) (c .before .before .before .before .before .before .before .before .read-message .ensures)))
 
 enum-known-count : tie.Need-enum-known-count
 enum-known-count c = search needs
@@ -36,8 +38,8 @@ same-length-2 c = search needs
 returns : tie.Need-returns
 returns c =
     let s = c .before .before .before .before .before .before .before .before .before .before .before .before .before .before .before .before in
-    refused-put (s .pre) (s .args .n) (s .args .table .now) (answered (c .before .before .before .before .before .before .before .r .given .1) (c .before .before .before .before .before .before .before .before .before .before .before .read-message .ensures))
-    (c .before .before .before .number-of .ensures) (c .before .before .put-told .ensures)
+    answer-put (s .pre) (s .args .n) (s .args .table .now) (answered (c .before .before .before .before .before .before .before .r .given .1) (c .before .before .before .before .before .before .before .before .before .before .before .read-message .ensures))
+    (rw (c .before .before .before .number-of .ensures) at (c .before .before .put-told .ensures))
 
 same-length-3 : tie.Need-same-length-3
 same-length-3 c = search needs
@@ -48,7 +50,7 @@ same-length-4 c = search needs
 returns-2 : tie.Need-returns-2
 returns-2 c =
     let s = c .before .before .before .before .before .before .before .before .before .before .before .before .before .before .before in
-    accepted-put (s .pre) (s .args .n) (s .args .table .now) (answered (c .before .before .before .before .before .before .count .given .1) (c .before .before .before .before .before .before .before .before .before .before .read-message .ensures))
+    answer-put (s .pre) (s .args .n) (s .args .table .now) (answered (c .before .before .before .before .before .before .count .given .1) (c .before .before .before .before .before .before .before .before .before .before .read-message .ensures))
     (c .before .before .put-accepted .ensures)
 
 pub put-message-spec : {M : Type 1} → statement M
