@@ -59,7 +59,7 @@ pub fn insert_record(
     match writer::weigh(source, table, count, most) {
         Weighed::First(why, i) => Inserted::Refused(why, i),
         Weighed::Left(_) => {
-            if record::is_good(source.len() as u64, added) {
+            if record::is_good(source.len() as u32, added) {
                 if count == table.len() / RECORD_WORDS {
                     return Inserted::Refused(Refusal::NoRoom, 0);
                 }

@@ -11,12 +11,13 @@ use lib.ListN.{length, take, drop, length-append, length-drop}
 use lib.Seq.{length-take-le}
 use Rattle.wire.specs.Choose.{choose}
 use Rattle.wire.specs.Varint.{encode}
+use Rattle.wire.specs.VarintLaws.{length-le}
 use Rattle.wire.specs.VarintLength.{length-four}
 use Rattle.wire.specs.Fixed.{fixed, length-fixed}
 use Rattle.wire.specs.Written.{type, writtenContent, writtenItem}
 use Rattle.wire.specs.Places.{shown, itemOf}
 use Rattle.wire.specs.Table.{recordAt, valueOf, fieldIn, goodValue, good}
-use Rattle.wire.specs.Records.{tagBefore, Judged, Fine, Bad, judge, Verdict, AllFine, First, andThen, tested, valueBytes, recordBytes, valueSize, recordSize, sized, weigh, run, message}
+use Rattle.wire.specs.Records.{tagBefore, Judged, Fine, Bad, judge, Verdict, AllFine, First, andThen, tested, valueBytes, recordBytes, valueSize, recordSize, weighValue, sized, weigh, run, message}
 use Rattle.wire.specs.declared.Record.{Record}
 use Rattle.wire.specs.declared.Refusal.{Refusal}
 use Rattle.wire.specs.declared.Refusal.the-variants.{BadRecord, OutOfOrder}
@@ -54,50 +55,84 @@ pub bad-tag : (n : ℕ) (r : Record) → 2 ^ 32 ≤ r .tag → good n r ≡ fals
 unfolding good
 bad-tag n r h = simp (le-ltb (r .tag) (2 ^ 32) h)
 
--- the cases, by the type
-module _ (n : ℕ) (r : Record) (h : r .tag < 2 ^ 32) where
-  opened : good n r ≡ goodValue n (r .kind) (r .value) (r .length)
-  unfolding good
-  opened = simp (lt-ltb (r .tag) (2 ^ 32) h)
+pub good-tag : (n : ℕ) (r : Record) → r .tag < 2 ^ 32 → good n r ≡ goodValue n (r .kind) (r .value) (r .length)
+unfolding good
+good-tag n r h = simp (lt-ltb (r .tag) (2 ^ 32) h)
 
-  pub good-varint : r .kind ≡ 0 → good n r ≡ eqb (r .length) 0
-  unfolding goodValue
-  good-varint e = opened ∙ rw e
+-- ---- what is said of a value, by its type
 
-  pub good-payload : r .kind ≡ 1 → r .value ≤ n → good n r ≡ leb (r .length) (n - r .value)
-  unfolding goodValue
-  good-payload e v = opened ∙ rw e (moved (leb (r .length) (n - r .value)) refl)
+module _ (n k v l : ℕ) where
+  pub value-number : k ≡ 0 → l ≡ 0 → weighValue n k v l ≡ weight.Bytes (length (encode v))
+  unfolding weighValue goodValue
+  value-number e f = rw (e, eq-eqb l 0 f)
+
+  pub no-number : k ≡ 0 → (l ≡ 0 → ⊥) → weighValue n k v l ≡ weight.Bad BadRecord
+  unfolding weighValue goodValue
+  no-number e f = rw (e, ne-eqb l 0 f)
+
+  pub value-payload : k ≡ 1 → v + l ≤ n → weighValue n k v l ≡ weight.Bytes (length (encode l) + l)
+  unfolding weighValue goodValue
+  value-payload e h = rw (e, le-leb (v + l) n h)
+
+  pub no-payload : k ≡ 1 → n < v + l → weighValue n k v l ≡ weight.Bad BadRecord
+  unfolding weighValue goodValue
+  no-payload e h = rw (e, lt-leb (v + l) n h)
+
+  pub value-four : k ≡ 2 → l ≡ 4 → v < 2 ^ 32 → weighValue n k v l ≡ weight.Bytes 4
+  unfolding weighValue goodValue
+  value-four e f h = rw (e, eq-eqb l 4 f, lt-ltb v (2 ^ 32) h)
+
+  pub no-four : k ≡ 2 → (l ≡ 4 → v < 2 ^ 32 → ⊥) → weighValue n k v l ≡ weight.Bad BadRecord
+  unfolding weighValue goodValue
+  no-four e f = go (eqb l 4) refl (ltb v (2 ^ 32)) refl
     where
-      moved : (b : Bool) → leb (r .length) (n - r .value) ≡ b → leb (r .value + r .length) n ≡ leb (r .length) (n - r .value)
-      moved true q = let z = leb-true (r .length) (n - r .value) q in rw q (le-leb (r .value + r .length) n (omega arith))
-      moved false q = let z = leb-false (r .length) (n - r .value) q in rw q (lt-leb (r .value + r .length) n (omega arith))
+      go : (a : Bool) → eqb l 4 ≡ a → (b : Bool) → ltb v (2 ^ 32) ≡ b → weighValue n k v l ≡ weight.Bad BadRecord
+      go true a true b = absurd (f (eqb-true l 4 a) (ltb-true v (2 ^ 32) b))
+      go true a false b = rw (e, a, b)
+      go false a b q = rw (e, a)
 
-  pub bad-payload : r .kind ≡ 1 → n < r .value → good n r ≡ false
-  unfolding goodValue
-  bad-payload e v = opened ∙ rw e (lt-leb (r .value + r .length) n (omega arith))
+  pub value-eight : k ≡ 3 → l ≡ 8 → weighValue n k v l ≡ weight.Bytes 8
+  unfolding weighValue goodValue
+  value-eight e f = rw (e, eq-eqb l 8 f)
 
-  pub good-four : r .kind ≡ 2 → r .length ≡ 4 → good n r ≡ ltb (r .value) (2 ^ 32)
-  unfolding goodValue
-  good-four e l = opened ∙ rw (e, eq-eqb (r .length) 4 l)
+  pub no-eight : k ≡ 3 → (l ≡ 8 → ⊥) → weighValue n k v l ≡ weight.Bad BadRecord
+  unfolding weighValue goodValue
+  no-eight e f = rw (e, ne-eqb l 8 f)
 
-  pub bad-four : r .kind ≡ 2 → (r .length ≡ 4 → ⊥) → good n r ≡ false
-  unfolding goodValue
-  bad-four e l = opened ∙ rw (e, ne-eqb (r .length) 4 l)
-
-  pub good-eight : r .kind ≡ 3 → good n r ≡ eqb (r .length) 8
-  unfolding goodValue
-  good-eight e = opened ∙ rw e
-
-  pub bad-kind : 3 < r .kind → good n r ≡ false
-  unfolding goodValue
-  bad-kind k = opened ∙ none (r .kind) k
+  pub no-type : 3 < k → weighValue n k v l ≡ weight.Bad BadRecord
+  unfolding weighValue goodValue
+  no-type h = rw (none k h)
     where
-      none : (k : ℕ) → 3 < k → goodValue n k (r .value) (r .length) ≡ false
+      none : (j : ℕ) → 3 < j → goodValue n j v l ≡ false
       none zero g = absurd (omega arith)
       none (suc zero) g = absurd (omega arith)
       none (suc (suc zero)) g = absurd (omega arith)
       none (suc (suc (suc zero))) g = absurd (omega arith)
-      none (suc (suc (suc (suc k)))) g = refl
+      none (suc (suc (suc (suc j)))) g = refl
+
+  -- what was said of it tells whether it is good
+  pub value-good : {w : Weight} (m : ℕ) → w ≡ weighValue n k v l → w ≡ weight.Bytes m → (goodValue n k v l ≡ true) × (m ≡ valueSize k v l)
+  unfolding weighValue
+  value-good {w} m e f = go (goodValue n k v l) refl
+    where
+      go : (b : Bool) → goodValue n k v l ≡ b → (goodValue n k v l ≡ true) × (m ≡ valueSize k v l)
+      go true q = let h : weight.Bytes m ≡ weight.Bytes (valueSize k v l) = simp q at (sym f ∙ e) in (q, cc)
+      go false q = let h : weight.Bytes m ≡ weight.Bad BadRecord = simp q at (sym f ∙ e) in let z : _≡_ {A = ℕ} 0 1 = cc in absurd (omega arith)
+
+  pub value-bad : {w : Weight} (why : Refusal) → w ≡ weighValue n k v l → w ≡ weight.Bad why → (goodValue n k v l ≡ false) × (why ≡ BadRecord)
+  unfolding weighValue
+  value-bad {w} why e f = go (goodValue n k v l) refl
+    where
+      go : (b : Bool) → goodValue n k v l ≡ b → (goodValue n k v l ≡ false) × (why ≡ BadRecord)
+      go true q = let h : weight.Bad why ≡ weight.Bytes (valueSize k v l) = simp q at (sym f ∙ e) in let z : _≡_ {A = ℕ} 0 1 = cc in absurd (omega arith)
+      go false q = let h : weight.Bad why ≡ weight.Bad BadRecord = simp q at (sym f ∙ e) in (q, cc)
+
+-- a good value is not much longer than the source
+pub value-short : (n k v l : ℕ) → goodValue n k v l ≡ true → valueSize k v l ≤ n + 9
+value-short n zero v l e = omega (arith, length-le v)
+value-short n (suc zero) v l e = omega (arith, length-le l, value-sound n 1 v l e .1 refl)
+value-short n (suc (suc zero)) v l e = omega arith
+value-short n (suc (suc (suc k))) v l e = omega arith
 
 -- ---- one record behind a tag
 
@@ -202,23 +237,6 @@ record-size s prev r g =
     ap length (record-bytes s r prev (g .kind))
     ∙ length-append key (valueBytes s r)
     ∙ rw (length-four (r .tag - prev) (r .kind) (g .kind), value-size s (r .kind) (r .value) (r .length) (g .payload))
-
-module _ (prev : ℕ) (r : Record) where
-  pub size-varint : r .kind ≡ 0 → recordSize prev r ≡ length (encode (4 * (r .tag - prev))) + length (encode (r .value))
-  unfolding recordSize
-  size-varint e = rw e
-
-  pub size-payload : r .kind ≡ 1 → recordSize prev r ≡ length (encode (4 * (r .tag - prev))) + (length (encode (r .length)) + r .length)
-  unfolding recordSize
-  size-payload e = rw e
-
-  pub size-four : r .kind ≡ 2 → recordSize prev r ≡ length (encode (4 * (r .tag - prev))) + 4
-  unfolding recordSize
-  size-four e = rw e
-
-  pub size-eight : r .kind ≡ 3 → recordSize prev r ≡ length (encode (4 * (r .tag - prev))) + 8
-  unfolding recordSize
-  size-eight e = rw e
 
 -- ---- what is said of one record
 

@@ -7,7 +7,7 @@ use Rattle.wire.specs.Choose.{choose}
 use Rattle.wire.specs.Varint.{encode}
 use Rattle.wire.specs.Written.{writtenContent, writtenItem, writtenFrom, written}
 use Rattle.wire.specs.Places.{shown, itemOf, items}
-use Rattle.wire.specs.Table.{room, recordAt, valueOf, fieldIn, fieldsFrom, good}
+use Rattle.wire.specs.Table.{room, recordAt, valueOf, fieldIn, fieldsFrom, goodValue, good}
 use Rattle.wire.specs.declared.Record.{Record}
 use Rattle.wire.specs.declared.Refusal.{Refusal}
 use Rattle.wire.specs.declared.Refusal.the-variants.{TooLong, BadRecord, OutOfOrder}
@@ -70,7 +70,11 @@ valueSize (suc (suc (suc k))) v l = 8
 unfoldable pub recordSize : ℕ → Record → ℕ
 recordSize prev r = length (encode (4 * (r .tag - prev))) + valueSize (r .kind) (r .value) (r .length)
 
--- what is said of a record behind a tag, over a source of n bytes: its size, or why it is refused
+-- what is said of a record's value, over a source of n bytes: its size, or that it is not good
+unfoldable pub weighValue : ℕ → ℕ → ℕ → ℕ → Weight
+weighValue n k v l = choose (goodValue n k v l) (weight.Bytes (valueSize k v l)) (weight.Bad BadRecord)
+
+-- and of a record behind a tag: its size, or why it is refused
 abbrev pub sized : ℕ → Judged → Weight
 sized k Fine = weight.Bytes k
 sized k (Bad why) = weight.Bad why

@@ -34,6 +34,12 @@ enum-known-why c = search needs
 enum-told : tie.Need-enum-told
 enum-told c = search needs
 
+cast-is-good : tie.Need-cast-is-good
+cast-is-good c =
+    let a = c .before .before .before .before .before .before in
+    let b = a .args in
+    omega (arith, checked-fine (b .most) (b .source .now) (b .table .now) (b .count) (fine c) .0, a .fits .most .fits)
+
 is-good-requires : tie.Need-is-good-requires
 is-good-requires c κs = search needs
 
@@ -88,6 +94,7 @@ insert-record-spec =
     weigh-requires
     enum-known-why
     enum-told
+    cast-is-good
     is-good-requires
     same-length
     returns

@@ -1,31 +1,72 @@
 -- `record::weigh_record` meets its contract.
-use mathlib.Core.Path.{sym, ap, _∙_}
+use Prim.Native.Nat.{_*_, _-_}
+use mathlib.Core.Path.{_≡_, sym, ap, _∙_}
+use mathlib.Core.Bool.{true}
 use native.Mathlib.Omega.{arith}
-use Rattle.wire.specs.RecordLaws.{good-sound, judge-bad, judge-falls, judge-good, weigh-bad, weigh-fine}
-use Rattle.wire.specs.declared.Weight.the-variants.{Bytes}
+use Rattle.wire.specs.VarintLaws.{length-le}
+use Rattle.wire.specs.Table.{good}
+use Rattle.wire.specs.Records.{recordSize}
+use Rattle.wire.specs.RecordLaws.{bad-tag, good-tag, value-good, value-bad, value-short, judge-bad, judge-falls, judge-good, weigh-bad, weigh-fine}
+use Rattle.wire.specs.declared.Weight.the-variants.{Bytes, Bad}
 use borrow.Author.Needs.{needs}
 use Rattle.record.proofs.weigh_record.Statement.{statement}
 use Rattle.record.proofs.weigh_record.Tie as tie
 
-is-good-requires : tie.Need-is-good-requires
-is-good-requires c κs = search needs
+-- the record is good
+sound : (c : tie.After-struct-known2) → good (c .before .before .before .before .before .before .before .args .size) (c .before .before .before .before .before .before .before .args .r) ≡ true
+sound c =
+    let a = c .before .before .before .before .before .before .before .args in
+    good-tag (a .size) (a .r) (omega arith) ∙ value-good (a .size) (a .r .kind) (a .r .value) (a .r .length) _ (c .before .before .before .before .weigh-value .ensures) (c .before .before .n .given .1) .0
 
 returns : tie.Need-returns
-returns c = sym (weigh-bad _ _ _ _ (judge-falls _ _ _ (sym (c .before .before .before .is-good .ensures) ∙ c .before .before .if1 .taken) (c .if2 .taken)))
+returns c = sym (weigh-bad _ _ _ _ (judge-bad _ _ _ (bad-tag _ _ (omega arith))))
 
-record-len-requires : tie.Need-record-len-requires
-record-len-requires c κs =
-    let a = c .before .before .before .before in
-    let g = good-sound (a .args .size) (a .args .r) (sym (c .before .before .before .is-good .ensures) ∙ c .before .before .if1 .taken) in
-    (c .if2 .left, g .tag, g .kind, λ k. omega (arith, g .payload k, a .fits .size .fits))
+weigh-value-requires : tie.Need-weigh-value-requires
+weigh-value-requires c κs = search needs
+
+enum-known-why : tie.Need-enum-known-why
+enum-known-why c = search needs
+
+enum-known-n : tie.Need-enum-known-n
+enum-known-n c = search needs
 
 returns-2 : tie.Need-returns-2
-returns-2 c =
-    sym (weigh-fine _ _ _ (judge-good _ _ _ (sym (c .before .before .before .before .is-good .ensures) ∙ c .before .before .before .if1 .taken) (c .before .if2 .left)) ∙ ap Bytes (sym (c .record-len .ensures)))
+returns-2 c = sym (weigh-bad _ _ _ _ (judge-falls _ _ _ (sound (c .before)) (c .if2 .taken)))
+
+mul-number-len : tie.Need-mul-number-len
+mul-number-len c = search needs
+
+number-len-requires : tie.Need-number-len-requires
+number-len-requires c κs = search needs
+
+add-t15 : tie.Need-add-t15
+add-t15 c =
+    let a = c .before .before .before .before .before .before .before .before .before .before .args in
+    let v = value-good (a .size) (a .r .kind) (a .r .value) (a .r .length) _ (c .before .before .before .before .before .before .before .weigh-value .ensures) (c .before .before .before .before .before .n .given .1) in
+    omega (arith, c .number-len .ensures, length-le (4 * (a .r .tag - a .prev)), v .1, value-short (a .size) (a .r .kind) (a .r .value) (a .r .length) (v .0), c .before .before .before .before .before .before .before .before .before .before .fits .size .fits)
 
 returns-3 : tie.Need-returns-3
-returns-3 c = sym (weigh-bad _ _ _ _ (judge-bad _ _ _ (sym (c .before .is-good .ensures) ∙ c .if1 .left)))
+returns-3 c =
+    let v = value-bad _ _ _ _ _ (c .before .before .before .weigh-value .ensures) (c .before .why .given .1) in
+    ap Bad (v .1) ∙ sym (weigh-bad _ _ _ _ (judge-bad _ _ _ (good-tag _ _ (omega arith) ∙ v .0)))
+
+returns-4 : tie.Need-returns-4
+unfolding recordSize
+returns-4 c =
+    let v = value-good _ _ _ _ _ (c .before .before .before .before .before .before .before .weigh-value .ensures) (c .before .before .before .before .before .n .given .1) in
+    rw (c .number-len .ensures, v .1) (sym (weigh-fine _ _ _ (judge-good _ _ _ (sound (c .before .before .before)) (c .before .before .if2 .left))))
 
 pub weigh-record-spec : {M : Type 1} → statement M
 weigh-record-spec =
-    tie.close (tie.spec is-good-requires returns record-len-requires returns-2 returns-3)
+    tie.close
+    (tie.spec
+    returns
+    weigh-value-requires
+    enum-known-why
+    enum-known-n
+    returns-2
+    mul-number-len
+    number-len-requires
+    add-t15
+    returns-3
+    returns-4)
