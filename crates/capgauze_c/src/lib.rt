@@ -582,7 +582,7 @@ pub extern "C" fn capgauze_payload_of(
     }
 }
 
-// A record's payload read as a message in itself.
+// A record's payload read as a message in itself: handed on to the export, so that the reader has one caller and is folded into it.
 #[no_mangle]
 pub extern "C" fn capgauze_read_payload(
     s: &[u8],
@@ -600,7 +600,8 @@ pub extern "C" fn capgauze_read_payload(
         value: value,
         length: length,
     };
-    read_words(capgauze::read_payload(s, r, table))
+    let part = capgauze::payload_of(s, r);
+    capgauze_read_message(part, 0, part.len(), table)
 }
 
 // The first field of a tag.

@@ -1,21 +1,22 @@
--- What the face answers and leaves, in words.
-use mathlib.Core.Path.{ap}
-use Rattle.capgauze_c.specs.Words.{handed, outcomeTold}
+-- The payload's part, then the export that reads messages.
+use mathlib.Core.Path.{_∙_, ap}
+use Rattle.capgauze.specs.Messages.{part-bytes, payload-read}
+use Rattle.capgauze_c.specs.Words.{outcomeTold}
 use borrow.Author.Needs.{needs}
 use Rattle.capgauze_c.proofs.capgauze_read_payload.Statement.{statement}
 use Rattle.capgauze_c.proofs.capgauze_read_payload.Tie as tie
 
-read-payload-requires : tie.Need-read-payload-requires
-read-payload-requires c κs = search needs
+payload-of-requires : tie.Need-payload-of-requires
+payload-of-requires c κs = search needs
 
-read-words-requires : tie.Need-read-words-requires
-read-words-requires c κs = search needs
+capgauze-read-message-requires : tie.Need-capgauze-read-message-requires
+capgauze-read-message-requires c κs = search needs
 
 same-length : tie.Need-same-length
 same-length c = search needs
 
 returns : tie.Need-returns
-returns c = handed (c .read-words .ensures) (ap outcomeTold (c .before .before .before .read-payload .ensures))
+returns c = let d = c .before .before in d .capgauze-read-message .ensures ∙ ap outcomeTold (payload-read _ _ _ _ (part-bytes _ _ (d .before .before .payload-of .result) (d .before .before .payload-of .ensures)))
 
 pub capgauze-read-payload-spec : {M : Type 1} → statement M
-capgauze-read-payload-spec = tie.close (tie.spec read-payload-requires read-words-requires same-length returns)
+capgauze-read-payload-spec = tie.close (tie.spec payload-of-requires capgauze-read-message-requires same-length returns)
