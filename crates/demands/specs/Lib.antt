@@ -1,5 +1,6 @@
 pub mod Calls
 pub mod Reading
+pub mod Writing
 pub mod Refusals
 pub mod Cases
 pub mod Determined

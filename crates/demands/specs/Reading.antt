@@ -63,7 +63,7 @@ whole m = let e : length m - 0 ≡ length m = omega arith in ap (λ (n : ℕ). t
 to-written : (m : List ℕ) (is : List Item) → Meant m is → Written m 0 (length m) is
 to-written m is w = record { good = w .good; bytes = whole m ∙ sym (w .bytes) }
 
-to-meant : (m : List ℕ) (is : List Item) → Written m 0 (length m) is → Meant m is
+pub to-meant : (m : List ℕ) (is : List Item) → Written m 0 (length m) is → Meant m is
 to-meant m is w = record { good = w .good; bytes = sym (w .bytes) ∙ whole m }
 
 length-items : (m : List ℕ) (fs : List Field) → length (items m fs) ≡ length fs

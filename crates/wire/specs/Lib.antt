@@ -28,3 +28,4 @@ pub mod WritingLaws
 pub mod Insertion
 pub mod InsertionLaws
 pub mod WritingCases
+pub mod ReadBack

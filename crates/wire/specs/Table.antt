@@ -111,7 +111,7 @@ word-behind r t i k =
     let e : recordWords * suc i + k ≡ suc (suc (suc (suc (recordWords * i + k)))) = omega arith in
     rw e
 
-record-behind : (r : Record) (t : List ℕ) (i : ℕ) → recordAt (words r ++ t) (suc i) ≡ recordAt t i
+pub record-behind : (r : Record) (t : List ℕ) (i : ℕ) → recordAt (words r ++ t) (suc i) ≡ recordAt t i
 unfolding recordAt
 record-behind r t i =
     let e : recordWords * suc i ≡ suc (suc (suc (suc (recordWords * i)))) = omega arith in
@@ -122,7 +122,7 @@ fields-behind : (k : ℕ) (r : Record) (t : List ℕ) (i : ℕ) → fieldsFrom k
 fields-behind zero r t i = refl
 fields-behind (suc k) r t i = rw (record-behind r t i, fields-behind k r t (suc i))
 
-record-first : (r : Record) (t : List ℕ) → recordAt (words r ++ t) 0 ≡ r
+pub record-first : (r : Record) (t : List ℕ) → recordAt (words r ++ t) 0 ≡ r
 unfolding recordAt
 record-first r t = refl
 
