@@ -1,6 +1,6 @@
 -- The lines of an input, and how they are taken from blocks of it.
 use Prim.Native.Nat.{ℕ, _+_, min}
-use mathlib.Core.List.{List, [], _∷_, _++_}
+use mathlib.Core.List.{List, [], _∷_}
 use lib.Dec.{eqb}
 use lib.ListN.{drop, set}
 use Rattle.wire.specs.Choose.{choose}
