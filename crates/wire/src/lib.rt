@@ -52,6 +52,9 @@ pub enum Refusal {
     BadRecord,
     OutOfOrder,
     BadCap,
+    WrongWireType,
+    OutOfRange,
+    MissingField,
 }
 
 // What a core finds at a place of a slice: something and the place after it, or why there is none.
