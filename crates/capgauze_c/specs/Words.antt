@@ -14,11 +14,15 @@ use Rattle.wire.specs.declared.WireType.{WireType}
 use Rattle.wire.specs.declared.WireType.the-variants as wireType
 use Rattle.message.specs.Into.{Outcome}
 use Rattle.message.specs.declared.Span.{Span}
+use Rattle.sounding.specs.Told as soundings
+use Rattle.sounding.specs.Told.{soundingTold}
+use Rattle.sounding.specs.Words as levels
 use Rattle.capgauze_c.specs.declared.Number.{Number}
 use Rattle.capgauze_c.specs.declared.Varint.{Varint}
 use Rattle.capgauze_c.specs.declared.ReadWords.{ReadWords}
 use Rattle.capgauze_c.specs.declared.PickWords.{PickWords}
 use Rattle.capgauze_c.specs.declared.Part.{Part}
+use Rattle.capgauze_c.specs.declared.SoundingWords.{SoundingWords}
 use Rattle.capgauze_c.specs.declared.KeyWords.{KeyWords}
 use Rattle.capgauze_c.specs.declared.ValueWords.{ValueWords}
 use Rattle.capgauze_c.specs.declared.PlaceWords.{PlaceWords}
@@ -58,6 +62,9 @@ asWritten r = record { number = r .number; start = r .start; length = r .length 
 abbrev pub asPart : Part → Span
 asPart p = record { start = p .start; length = p .length }
 
+abbrev pub asSounding : SoundingWords → soundings.Heading
+asSounding r = record { number = r .number; station = r .station; launch = r .launch; levels = r .levels }
+
 -- what is told, and what the lent memory holds
 pub record Lent (A : Type 0) : Type 0 where
   pub told : A
@@ -74,6 +81,9 @@ writingTold o = record { told = writtenTold (o .answer); lent = o .buf }
 
 abbrev pub insertionTold : Insertion → Lent told.Number
 insertionTold o = record { told = insertedTold (o .answer); lent = o .table }
+
+abbrev pub levelsTold : levels.Outcome → Lent soundings.Heading
+levelsTold o = record { told = soundingTold (o .answer); lent = o .levels }
 
 -- a told answer in words, with what is lent beside it
 pub handed : {A : Type 0} {t u : A} {l : List ℕ} {o : Lent A} → t ≡ u → _≡_ {A = Lent A} (record { told = u; lent = l }) o → _≡_ {A = Lent A} (record { told = t; lent = l }) o

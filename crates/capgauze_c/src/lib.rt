@@ -13,7 +13,9 @@ ghost use Rattle.capgauze.specs.Fields.{decodeKey, keyAtFront, keyAtEnd, keyLen
 ghost use Rattle.capgauze.specs.Varints.{decodeVarint, decodeVarintCapped};
 ghost use Rattle.capgauze.specs.Stores.{atFront, atEnd};
 ghost use Rattle.capgauze.specs.Messages.{readEntry, readPayload, pickEntry};
-ghost use Rattle.capgauze_c.specs.Words.{Lent, asNumber, asVarint, asRead, asPicked, asPart, asWritten, writingTold, insertionTold, asKey, asValue, asPlace, asStep, typedOf, keyStored, valueTyped, placeTyped, storedTold, outcomeTold};
+ghost use Rattle.sounding.specs.Told.{soundingTold};
+ghost use Rattle.sounding.specs.Words.{readSounding};
+ghost use Rattle.capgauze_c.specs.Words.{Lent, asNumber, asVarint, asRead, asPicked, asPart, asWritten, writingTold, insertionTold, asKey, asValue, asPlace, asStep, typedOf, keyStored, valueTyped, placeTyped, storedTold, outcomeTold, asSounding, levelsTold};
 use capgauze::KeyRead;
 use capgauze::Measured;
 use capgauze::Picked;
@@ -22,6 +24,7 @@ use capgauze::Skipped;
 use capgauze::Step;
 use capgauze::ValueRead;
 use capgauze::VarintRead;
+use sounding::Sounding;
 use wire::Inserted;
 use wire::Read;
 use wire::Record;
@@ -110,6 +113,14 @@ pub struct WrittenWords {
 pub enum Typed {
     Is(WireType),
     Unknown,
+}
+
+#[repr(C)]
+pub struct SoundingWords {
+    pub number: u64,
+    pub station: u64,
+    pub launch: u64,
+    pub levels: u64,
 }
 
 // The paper's number of a refusal.
@@ -404,6 +415,25 @@ fn pick_words(p: Picked) -> PickWords
     }
 }
 
+fn sounding_words(a: Sounding) -> SoundingWords
+    ensures { λ r. ⌜ asSounding r ≡ soundingTold a ⌝ }
+{
+    match a {
+        Sounding::Read(h) => SoundingWords {
+            number: 0,
+            station: h.station,
+            launch: h.launch,
+            levels: h.levels as u64,
+        },
+        Sounding::Refused(r) => SoundingWords {
+            number: number_of(r),
+            station: 0,
+            launch: 0,
+            levels: 0,
+        },
+    }
+}
+
 // ---- varints
 
 // How many bytes a number is written as.
@@ -675,4 +705,14 @@ pub extern "C" fn capgauze_insert(
         length: length,
     };
     inserted_words(capgauze::insert(source, table, count, r))
+}
+
+// ---- soundings
+
+// A sounding, with its levels in the table, five words a level.
+#[no_mangle]
+pub extern "C" fn capgauze_read_sounding(s: &[u8], levels: &mut [u64]) -> SoundingWords
+    ensures { λ r. ⌜ record { told = asSounding r; lent = now (levels .exit) } ≡ levelsTold (readSounding (now (s .entry)) (now (levels .entry))) ⌝ }
+{
+    sounding_words(sounding::read_sounding(s, levels))
 }
