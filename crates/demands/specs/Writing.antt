@@ -123,9 +123,9 @@ planned c w z =
     in
     read-plan m t (readMessage m 0 (length m)) (answer c) (left c) refl e
     (λ fs h.
-        let a = accepted m 0 (length m) (w .bytes) fs h in
-        let f : length fs ≤ room t = omega (arith, a .1, w .enough) in
-        (f, table-plan m t fs (w .bytes) h f messageLimit (w .short) (to-meant m (items m fs) (a .0) .bytes)))
+    let a = accepted m 0 (length m) (w .bytes) fs h in
+    let f : length fs ≤ room t = omega (arith, a .1, w .enough) in
+    (f, table-plan m t fs (w .bytes) h f messageLimit (w .short) (to-meant m (items m fs) (a .0) .bytes)))
     z
 
 module _ (c : Call) (w : Whole c) (z : readTold (answer c) .number ≡ 0) {b : List ℕ} (fits : length (message c) ≤ length b) where

@@ -183,6 +183,9 @@ fn number_of(r: Refusal) -> u64
         Refusal::BadRecord => 6,
         Refusal::OutOfOrder => 7,
         Refusal::BadCap => 8,
+        Refusal::WrongWireType => 9,
+        Refusal::OutOfRange => 10,
+        Refusal::MissingField => 13,
     }
 }
 

@@ -8,8 +8,8 @@ use native.Mathlib.Nat.{add-zero}
 use native.Mathlib.Numerals.{add-one}
 use borrow.Author.Tests.{le-leb, lt-leb}
 use lib.Dec.{leb}
-use lib.ListN.{length, take, drop, set, drop-of-length-le, length-drop, length-set}
-use lib.Seq.{sets, sets-eq, set-comm, length-take-le}
+use lib.ListN.{length, take, drop, set, drop-of-length-le, length-drop, length-set, length-append}
+use lib.Seq.{sets, sets-eq, set-comm, length-take-le, length-sets}
 use Rattle.wire.specs.Choose.{choose}
 
 -- ---- DEFINITIONS: the place that a put answers, and what the buffer holds
@@ -123,6 +123,17 @@ put-end b xs h =
     sets-eq xs b (length b - length xs) (omega arith)
     ∙ simp (e, drop-of-length-le b {i = length b} (omega arith), append-nil)
 
+-- what two puts answer, one behind the other
+pub placed-behind : (b : List ℕ) (at : ℕ) {n m : ℕ} {c d : List ℕ} (xs ys : List ℕ)
+    → _≡_ {A = Placed} (record { next = n; buf = c }) (placed b at xs)
+    → _≡_ {A = Placed} (record { next = m; buf = d }) (placed c n ys)
+    → _≡_ {A = Placed} (record { next = m; buf = d }) (placed b at (xs ++ ys))
+placed-behind b at {n} {m} {c} {d} xs ys e f =
+    let n1 : n ≡ at + length xs = ap (λ (o : Placed). o .next) e in
+    let b1 : c ≡ sets b at xs = ap (λ (o : Placed). o .buf) e in
+    let q : at + length xs + length ys ≡ at + length (xs ++ ys) = omega (arith, length-append xs ys) in
+    f ∙ rw (n1, b1, q, put-behind b at xs ys)
+
 -- ---- A PUT A BYTE AT A TIME: what is still to be put, on top of what is there, is what was asked
 
 pub record Putting (b : List ℕ) (at : ℕ) (xs : List ℕ) (buf : List ℕ) (p : ℕ) (ys : List ℕ) : Type 0 where
@@ -141,6 +152,19 @@ put-more {b} {at} {xs} {buf} {p} {y} {ys} w =
       roomy = w .roomy;
       next = omega (arith, w .next);
       rest = rw (add-one p) (w .rest);
+    }
+
+-- several bytes in one put
+pub put-on : {b : List ℕ} {at : ℕ} {xs buf : List ℕ} {p n : ℕ} {c : List ℕ} (ys zs : List ℕ) → Putting b at xs buf p (ys ++ zs)
+    → _≡_ {A = Placed} (record { next = n; buf = c }) (placed buf p ys) → Putting b at xs c n zs
+put-on {b} {at} {xs} {buf} {p} {n} {c} ys zs w e =
+    let n1 : n ≡ p + length ys = ap (λ (o : Placed). o .next) e in
+    let b1 : c ≡ sets buf p ys = ap (λ (o : Placed). o .buf) e in
+    record {
+      same = ap length b1 ∙ length-sets buf p ys ∙ w .same;
+      roomy = w .roomy;
+      next = omega (arith, w .next, length-append ys zs);
+      rest = rw (n1, b1, put-behind buf p ys zs) (w .rest);
     }
 
 pub put-inside : {b : List ℕ} {at : ℕ} {xs buf : List ℕ} {p y : ℕ} {ys : List ℕ} → Putting b at xs buf p (y ∷ ys) → p < length buf
