@@ -37,7 +37,10 @@ enum {
                                     what is to be written, an insertion into a full table */
     CAPGAUZE_BAD_RECORD = 6,     /* a record that is not good, a count above the room, a wire type above 3 */
     CAPGAUZE_OUT_OF_ORDER = 7,   /* a tag below the one before it */
-    CAPGAUZE_BAD_CAP = 8         /* a place, start or end above the slice's length */
+    CAPGAUZE_BAD_CAP = 8,        /* a place, start or end above the slice's length */
+    CAPGAUZE_WRONG_WIRE_TYPE = 9, /* a sounding's field of another wire type */
+    CAPGAUZE_OUT_OF_RANGE = 10,  /* a station, pressure, temperature or depression outside its range */
+    CAPGAUZE_MISSING_FIELD = 13  /* a sounding without station or launch, a level without pressure */
 };
 
 /* The four wire types. */
@@ -63,6 +66,7 @@ typedef struct { uint64_t number, place, count; } capgauze_read;
 typedef struct { uint64_t number, start, length; } capgauze_written;
 typedef struct { uint64_t number, found, type, value, length; } capgauze_picked;
 typedef struct { uint64_t start, length; } capgauze_part;
+typedef struct { uint64_t number, station, launch, levels; } capgauze_sounding;
 
 /* ---- Numbers ---- */
 
@@ -123,6 +127,18 @@ capgauze_read capgauze_read_payload(const uint8_t *s, size_t s_len, uint64_t tag
 /* Reads the whole message and answers the first field of the tag: found is 1, and type, value, length are its record's.
  * Absent: found is 0. Refused: the number alone. */
 capgauze_picked capgauze_pick(const uint8_t *s, size_t s_len, uint32_t tag);
+
+/* ---- Soundings ---- */
+
+/* The words of a level: pressure in Pa; then for temperature and dew point depression, both in tenths of a degree, each 1 and the
+ * number as the wire has it (a temperature by the signed mapping), or 0 and all ones where it is missing. */
+#define CAPGAUZE_LEVEL_WORDS 5
+
+/* Reads a whole sounding: its station, its launch in seconds and the number of its levels, whose words go into `levels`
+ * in their order; the words behind them stay. Refusals in order: the sounding's own as a message; then tag by tag
+ * WrongWireType, MissingField, OutOfRange, each level as a message in itself and its tags likewise; last NoRoom, if there
+ * are more levels than words / CAPGAUZE_LEVEL_WORDS. Refused: the number alone, and `levels` stays as it was. */
+capgauze_sounding capgauze_read_sounding(const uint8_t *s, size_t s_len, uint64_t *levels, size_t words);
 
 /* ---- Writing ----
  * Of one part: the bytes go to the buffer's front (encode) or its end (prepend), all other bytes stay; value is their

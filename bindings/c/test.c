@@ -170,11 +170,32 @@ static void writing(void) {
     TABLE_IS(0, 1, 0, 2, 1, 0, 5, 0, 77);
 }
 
+static void soundings(void) {
+    use("04010400050E0464040304FFFEFEFEFEFEFEFEFE");
+    lay(6, (const uint64_t[]){77, 77, 77, 77, 77, 77});
+    SAME(capgauze_read_sounding(S, TABLE), 0, 1, 0, 1);
+    TABLE_IS(100, 1, 3, 0, UINT64_MAX, 77);
+    lay(4, (const uint64_t[]){77, 77, 77, 77});
+    SAME(capgauze_read_sounding(S, TABLE), 5, 0, 0, 0);
+    use("04010400");
+    SAME(capgauze_read_sounding(S, TABLE), 0, 1, 0, 0);
+    use("0400");
+    SAME(capgauze_read_sounding(S, TABLE), 10, 0, 0, 0);
+    use("0401");
+    SAME(capgauze_read_sounding(S, TABLE), 13, 0, 0, 0);
+    use("0500");
+    SAME(capgauze_read_sounding(S, TABLE), 9, 0, 0, 0);
+    use("040104000500");
+    SAME(capgauze_read_sounding(S, TABLE), 13, 0, 0, 0);
+    TABLE_IS(77, 77, 77, 77);
+}
+
 int main(void) {
     numbers();
     parts();
     messages();
     writing();
+    soundings();
     printf("%d answers, %d differ\n", calls, failures);
     return failures != 0;
 }

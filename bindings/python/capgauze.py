@@ -25,9 +25,10 @@ from collections import namedtuple
 
 LIMIT = 65_535  # the longest message
 RECORD_WORDS = 4
+LEVEL_WORDS = 5
 VARINT, LENGTH_DELIMITED, THIRTY_TWO_BIT, SIXTY_FOUR_BIT = range(4)
 NAMES = ("accepted", "Truncated", "InvalidVarint", "TagOverflowed", "TooLong", "NoRoom", "BadRecord", "OutOfOrder",
-         "BadCap")
+         "BadCap", "WrongWireType", "OutOfRange", None, None, "MissingField")
 
 # What accepted calls answer; a record's words are a table's.
 Record = namedtuple("Record", "tag type value length")
@@ -38,6 +39,8 @@ Step = namedtuple("Step", "tag type value length place")
 Read = namedtuple("Read", "place count")
 Written = namedtuple("Written", "start length")
 Picked = namedtuple("Picked", "type value length")
+Sounding = namedtuple("Sounding", "station launch levels")
+Level = namedtuple("Level", "pressure_pa temperature_c dewpoint_depression_c")
 
 
 class Refused(ValueError):
@@ -87,6 +90,7 @@ _ENTRIES = {
     "encoded_len_message": (_WRITTEN, *_BYTES, *_TABLE, _SIZE),
     "insert": (_NUMBER, *_BYTES, *_TABLE, _SIZE, *_RECORD),
     "pick": (_answer("number found type value length"), *_BYTES, _U32),
+    "read_sounding": (_answer("number station launch levels"), *_BYTES, *_TABLE),
 }
 
 
@@ -242,6 +246,37 @@ def pick(s, tag):
     """
     found, *picked = _accepted("pick", *lent(s), tag)
     return Picked(*picked) if found else None
+
+
+# ---- Soundings ----
+
+def read_sounding(s, levels):
+    """Reads a whole sounding into a table of five words a level: its station, its launch and the number of levels.
+
+    >>> levels = words(5)
+    >>> read_sounding(bytes.fromhex("04010400050E0464040304FFFEFEFEFEFEFEFEFE"), levels)
+    Sounding(station=1, launch=0, levels=1)
+    >>> list(levels) == [100, 1, 3, 0, 2**64 - 1]
+    True
+    """
+    return Sounding(*_accepted("read_sounding", *lent(s), *room(levels, ctypes.c_uint64)))
+
+
+def sounding(s):
+    """Reads a whole sounding: its station, its launch and the list of its levels, in degrees; a missing value is None.
+
+    >>> sounding(bytes.fromhex("04010400050E0464040304FFFEFEFEFEFEFEFEFE")).levels
+    [Level(pressure_pa=100, temperature_c=-0.2, dewpoint_depression_c=None)]
+    """
+    s = s if isinstance(s, bytes) else bytes(memoryview(s))
+    table = words(LEVEL_WORDS * (len(s) // 2))
+    station, launch, count = read_sounding(s, table)
+    return Sounding(station, launch, [_level(*table[at:at + LEVEL_WORDS]) for at in range(0, LEVEL_WORDS * count, LEVEL_WORDS)])
+
+
+def _level(pressure, has_temperature, temperature, has_depression, depression):
+    return Level(pressure, u64_to_signed(temperature) / 10 if has_temperature else None,
+                 depression / 10 if has_depression else None)
 
 
 # ---- Writing ----

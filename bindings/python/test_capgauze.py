@@ -142,5 +142,23 @@ class Lent(unittest.TestCase):
         self.assertEqual(buf, b"\xA5" * 9)
 
 
+class Soundings(unittest.TestCase):
+    ICED = bytes.fromhex("04010400050E0464040304FFFEFEFEFEFEFEFEFE")
+
+    def test_missing_is_none(self):
+        station, launch, levels = capgauze.sounding(self.ICED)
+        self.assertEqual((station, launch), (1, 0))
+        self.assertEqual(levels, [capgauze.Level(100, -0.2, None)])
+
+    def test_refused_leaves_the_table(self):
+        table = array("Q", [77] * 5)
+        for sounding, name in [("0400", "OutOfRange"), ("0401", "MissingField"), ("0500", "WrongWireType"),
+                               ("04010400050E", "Truncated")]:
+            with self.assertRaises(capgauze.Refused) as caught:
+                capgauze.read_sounding(bytes.fromhex(sounding), table)
+            self.assertEqual(caught.exception.name, name)
+        self.assertEqual(list(table), [77] * 5)
+
+
 if __name__ == "__main__":
     unittest.main()

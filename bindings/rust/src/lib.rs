@@ -34,6 +34,9 @@ pub use types::*;
 /// The longest slice that is read, and the longest message that is written.
 pub const LIMIT: usize = 65_535;
 
+/// The words of a level in a table.
+pub const LEVEL_WORDS: usize = 5;
+
 #[cfg(not(target_pointer_width = "64"))]
 compile_error!("capgauze is for 64-bit lengths");
 
@@ -42,11 +45,13 @@ compile_error!("capgauze is for 64-bit lengths");
 /// `Ok` of an accepted answer, or its refusal. The library's numbers are those of [`Refusal`].
 fn accepted(number: u64) -> Result<(), Refusal> {
     use Refusal::*;
-    const ALL: [Refusal; 8] =
-        [Truncated, InvalidVarint, TagOverflowed, TooLong, NoRoom, BadRecord, OutOfOrder, BadCap];
+    const ALL: [Refusal; 11] = [
+        Truncated, InvalidVarint, TagOverflowed, TooLong, NoRoom, BadRecord, OutOfOrder, BadCap, WrongWireType,
+        OutOfRange, MissingField,
+    ];
     match number {
         0 => Ok(()),
-        _ => Err(ALL[number as usize - 1]),
+        _ => Err(*ALL.iter().find(|refusal| refusal.number() == number).expect("a number of the paper")),
     }
 }
 
@@ -370,6 +375,28 @@ pub fn pick(s: &[u8], tag: u32) -> Result<Option<Value>, Refusal> {
     let answer = unsafe { ffi::capgauze_pick(s.as_ptr(), s.len(), tag) };
     accepted(answer.number)?;
     Ok((answer.found != 0).then(|| value(answer.kind, answer.value, answer.length)))
+}
+
+// ---- Soundings ----
+
+/// Reads a whole sounding; its levels go into the table, five words each ([`Level::at`] puts names on them). Refusals: as a
+/// message; then tag by tag WrongWireType, MissingField, OutOfRange; last NoRoom. A refused call leaves the table as it was.
+///
+/// ```
+/// # use capgauze::{read_sounding, Level, Sounding};
+/// let sounding = [
+///     0x04, 0x01, 0x04, 0x00, 0x05, 0x0E, 0x04, 0x64, 0x04, 0x03, 0x04, 0xFF, 0xFE, 0xFE, 0xFE, 0xFE, 0xFE, 0xFE, 0xFE,
+///     0xFE,
+/// ];
+/// let mut levels = [0; 5];
+/// assert_eq!(read_sounding(&sounding, &mut levels), Ok(Sounding { station: 1, launch: 0, levels: 1 }));
+/// // All ones means that no sensor measured this.
+/// assert_eq!(Level::at(&levels, 0), Some(Level { pressure: 100, temperature: Some(-2), depression: None }));
+/// ```
+pub fn read_sounding(s: &[u8], levels: &mut [u64]) -> Result<Sounding, Refusal> {
+    let answer = unsafe { ffi::capgauze_read_sounding(s.as_ptr(), s.len(), levels.as_mut_ptr(), levels.len()) };
+    accepted(answer.number)?;
+    Ok(Sounding { station: answer.station, launch: answer.launch, levels: answer.levels as usize })
 }
 
 // ---- Writing ----

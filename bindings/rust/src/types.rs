@@ -118,6 +118,34 @@ impl From<Field> for Record {
     }
 }
 
+/// What a sounding says of itself: its station, its launch in seconds, and the number of its levels.
+#[derive(Clone, Copy, Debug, PartialEq, Eq, Hash)]
+pub struct Sounding {
+    pub station: u64,
+    pub launch: u64,
+    pub levels: usize,
+}
+
+/// A level: its pressure in Pa; temperature and dew point depression in tenths of a degree, `None` where missing.
+#[derive(Clone, Copy, Debug, PartialEq, Eq, Hash)]
+pub struct Level {
+    pub pressure: u64,
+    pub temperature: Option<i64>,
+    pub depression: Option<u64>,
+}
+
+impl Level {
+    /// The level at an index of a table that [`read_sounding`](crate::read_sounding) filled, if the table has it.
+    pub fn at(levels: &[u64], index: usize) -> Option<Level> {
+        let words = levels.chunks_exact(crate::LEVEL_WORDS).nth(index)?;
+        Some(Level {
+            pressure: words[0],
+            temperature: (words[1] != 0).then(|| crate::u64_to_signed(words[2])),
+            depression: (words[3] != 0).then(|| words[4]),
+        })
+    }
+}
+
 /// Why a call was refused.
 #[derive(Clone, Copy, Debug, PartialEq, Eq, Hash)]
 pub enum Refusal {
@@ -137,6 +165,12 @@ pub enum Refusal {
     OutOfOrder = 7,
     /// A place, start or end above the slice's length.
     BadCap = 8,
+    /// A sounding's field of another wire type.
+    WrongWireType = 9,
+    /// A station, pressure, temperature or depression outside its range.
+    OutOfRange = 10,
+    /// A sounding without station or launch, or a level without pressure.
+    MissingField = 13,
 }
 
 impl Refusal {
