@@ -3,7 +3,8 @@ use mathlib.Core.Path.{_∙_, sym}
 use denote.Ref.{now}
 use Rattle.wire.specs.Only.{One}
 use Rattle.capgauze.specs.Told as told
-use Rattle.capgauze_c.specs.Words.{Lent, asNumber, asVarint, asKey, asValue, asPlace, asStep, asRead, asPicked, asPart, asWritten}
+use Rattle.sounding.specs.Told as soundings
+use Rattle.capgauze_c.specs.Words.{Lent, asNumber, asVarint, asKey, asValue, asPlace, asStep, asRead, asPicked, asPart, asWritten, asSounding}
 use Rattle.capgauze_c.proofs.capgauze_encoded_len_varint.Kinds as encoded-len-varint
 use Rattle.capgauze_c.proofs.capgauze_encoded_len_varint.Reads as encoded-len-varint-reads
 use Rattle.capgauze_c.proofs.capgauze_i64_to_unsigned.Kinds as i64-to-unsigned
@@ -48,6 +49,8 @@ use Rattle.capgauze_c.proofs.capgauze_encoded_len_message.Kinds as enco
 use Rattle.capgauze_c.proofs.capgauze_encoded_len_message.Reads as encoded-len-message-reads
 use Rattle.capgauze_c.proofs.capgauze_insert.Kinds as insert
 use Rattle.capgauze_c.proofs.capgauze_insert.Reads as insert-reads
+use Rattle.capgauze_c.proofs.capgauze_read_sounding.Kinds as read-sounding
+use Rattle.capgauze_c.proofs.capgauze_read_sounding.Reads as read-sounding-reads
 
 pub encoded-len-varint-one : One 0 encoded-len-varint.ps encoded-len-varint.r encoded-len-varint-reads.Post (λ κs r s. r)
 encoded-len-varint-one κs a x y s t p q = p ∙ sym q
@@ -114,3 +117,6 @@ encoded-len-message-one κs a x y s t p q = p ∙ sym q
 
 pub insert-one : One 2 insert.ps insert.r insert-reads.Post {S = Lent told.Number} (λ κs r s. record { told = asNumber r; lent = now (s .1 .0) })
 insert-one κs a x y s t p q = p ∙ sym q
+
+pub read-sounding-one : One 2 read-sounding.ps read-sounding.r read-sounding-reads.Post {S = Lent soundings.Heading} (λ κs r s. record { told = asSounding r; lent = now (s .1 .0) })
+read-sounding-one κs a x y s t p q = p ∙ sym q
