@@ -47,6 +47,8 @@ use Rattle.capgauze.proofs.payload_of.Kinds as payload-of
 use Rattle.capgauze.proofs.payload_of.Reads as payload-of-reads
 use Rattle.capgauze.proofs.read_payload.Kinds as read-payload
 use Rattle.capgauze.proofs.read_payload.Reads as read-payload-reads
+use Rattle.capgauze.proofs.pick_at.Kinds as pick-at
+use Rattle.capgauze.proofs.pick_at.Reads as pick-at-reads
 use Rattle.capgauze.proofs.pick.Kinds as pick
 use Rattle.capgauze.proofs.pick.Reads as pick-reads
 use Rattle.capgauze.proofs.encode_message.Kinds as encode-message
@@ -97,6 +99,9 @@ payload-of-one κs a x y s t p q = p ∙ sym q
 
 pub read-payload-one : One 2 read-payload.ps read-payload.r read-payload-reads.Post {S = Outcome} (λ κs r s. record { answer = r; table = now (s .1 .1 .0) })
 read-payload-one κs a x y s t p q = p ∙ sym q
+
+pub pick-at-one : One 1 pick-at.ps pick-at.r pick-at-reads.Post (λ κs r s. r)
+pick-at-one κs a x y s t p q = p ∙ sym q
 
 pub pick-one : One 1 pick.ps pick.r pick-reads.Post (λ κs r s. r)
 pick-one κs a x y s t p q = p ∙ sym q

@@ -2,12 +2,17 @@
 use Prim.Native.Nat.{ℕ, _+_, _≤_}
 use mathlib.Core.Path.{_≡_, refl, ap, _∙_}
 use mathlib.Core.List.{List, [], _∷_}
+use borrow.Author.Tests.{ne-eqb}
+use native.Mathlib.Omega.{arith}
+use lib.Dec.{eqb}
 use lib.ListN.{length, take, drop}
 use denote.Ref.{RefT, now}
+use Rattle.wire.specs.Choose.{choose}
 use Rattle.wire.specs.Limits.{messageLimit}
 use Rattle.wire.specs.Reading.{Message, Fields, readMessage}
 use Rattle.wire.specs.Reading as reading
 use Rattle.wire.specs.declared.Refusal.{Refusal}
+use Rattle.wire.specs.declared.Refusal.the-variants.{Repeated}
 use Rattle.wire.specs.declared.Field.{Field}
 use Rattle.wire.specs.declared.Record.{Record}
 use Rattle.wire.specs.declared.Read.the-variants.{Refused}
@@ -18,8 +23,12 @@ use Rattle.message.specs.declared.Span.{Span}
 use Rattle.message.specs.declared.Sought.{Sought}
 use Rattle.message.specs.declared.Sought.the-variants as soughtAs
 use Rattle.capgauze.specs.Gate.{gated, through, through-open, gated-open}
+use Rattle.capgauze.specs.declared.Gated.{Gated}
+use Rattle.capgauze.specs.declared.Gated.the-variants.{Open, Shut}
 use Rattle.capgauze.specs.declared.Picked.{Picked}
 use Rattle.capgauze.specs.declared.Picked.the-variants as pickedAs
+use Rattle.capgauze.specs.declared.Several.{Several}
+use Rattle.capgauze.specs.declared.Several.the-variants as severalAs
 
 -- ---- a message read into a table
 
@@ -64,12 +73,13 @@ payload-read m p r t e = ap (λ (x : List ℕ). readEntry x 0 (length x) t) e
 
 -- ---- pick
 
--- of the fields of the tag: the first, or Absent
+-- of the fields of the tag: the only one, or Absent; Repeated where there are more
 abbrev pub pickedOf : List Field → Picked
 pickedOf [] = pickedAs.Absent
-pickedOf (f ∷ fs) = pickedAs.Found f
+pickedOf (f ∷ []) = pickedAs.Found f
+pickedOf (f ∷ g ∷ fs) = pickedAs.Refused Repeated
 
--- the whole message is read; its refusal answers the number alone
+-- the whole message is read; its refusal answers the number alone, and comes first
 abbrev pub picked : ℕ → Message → Picked
 picked tag (Fields fs) = pickedOf (ofTag tag fs)
 picked tag (reading.Refused r p) = pickedAs.Refused r
@@ -77,17 +87,38 @@ picked tag (reading.Refused r p) = pickedAs.Refused r
 unfoldable pub pickEntry : List ℕ → ℕ → Picked
 pickEntry s tag = through (gated (length s) 0 (length s)) pickedAs.Refused (picked tag (readMessage s 0 (length s)))
 
--- the same from what the core answers
-abbrev pub pickedFrom : Sought → Picked
-pickedFrom (soughtAs.Found f n) = pickedAs.Found f
-pickedFrom (soughtAs.Absent n) = pickedAs.Absent
-pickedFrom (soughtAs.Refused r) = pickedAs.Refused r
+-- ---- pick at a number
 
-picked-first : (fs : List Field) → pickedOf fs ≡ pickedFrom (atNumber 0 fs)
+-- how many, and the one at number k, counted from 0
+abbrev pub severalOf : Sought → Several
+severalOf (soughtAs.Found f n) = severalAs.Found n f
+severalOf (soughtAs.Absent n) = severalAs.Absent n
+severalOf (soughtAs.Refused r) = severalAs.Refused r
+
+unfoldable pub severalEntry : List ℕ → ℕ → ℕ → Several
+severalEntry s tag k = through (gated (length s) 0 (length s)) severalAs.Refused (severalOf (sought tag k (readMessage s 0 (length s))))
+
+-- ---- pick is what there is at number 0, if that is all
+
+abbrev pub pickedFrom : Several → Picked
+pickedFrom (severalAs.Found n f) = choose (eqb n 1) (pickedAs.Found f) (pickedAs.Refused Repeated)
+pickedFrom (severalAs.Absent n) = pickedAs.Absent
+pickedFrom (severalAs.Refused r) = pickedAs.Refused r
+
+picked-only : (fs : List Field) → pickedOf fs ≡ pickedFrom (severalOf (atNumber 0 fs))
 unfolding atNumber
-picked-first [] = refl
-picked-first (f ∷ fs) = refl
+picked-only [] = refl
+picked-only (f ∷ []) = refl
+picked-only (f ∷ g ∷ fs) = rw (ne-eqb (length (f ∷ g ∷ fs)) 1 (λ e. omega arith))
 
-pub picked-sought : (tag : ℕ) (m : Message) → picked tag m ≡ pickedFrom (sought tag 0 m)
-picked-sought tag (Fields fs) = picked-first (ofTag tag fs)
+picked-sought : (tag : ℕ) (m : Message) → picked tag m ≡ pickedFrom (severalOf (sought tag 0 m))
+picked-sought tag (Fields fs) = picked-only (ofTag tag fs)
 picked-sought tag (reading.Refused r p) = refl
+
+pub picked-several : (s : List ℕ) (tag : ℕ) → pickEntry s tag ≡ pickedFrom (severalEntry s tag 0)
+unfolding pickEntry severalEntry
+picked-several s tag = go (gated (length s) 0 (length s))
+  where
+    go : (g : Gated) → through g pickedAs.Refused (picked tag (readMessage s 0 (length s))) ≡ pickedFrom (through g severalAs.Refused (severalOf (sought tag 0 (readMessage s 0 (length s)))))
+    go Open = picked-sought tag (readMessage s 0 (length s))
+    go (Shut r) = refl

@@ -12,7 +12,7 @@ ghost use Rattle.wire.specs.Writing.{Writing};
 ghost use Rattle.wire.specs.Insertion.{Insertion};
 ghost use Rattle.capgauze.specs.Gate.{gated};
 ghost use Rattle.capgauze.specs.Test.{moreEntry};
-ghost use Rattle.capgauze.specs.Messages.{Part, partOf, readEntry, payloadPart, readPayload, pickEntry};
+ghost use Rattle.capgauze.specs.Messages.{Part, partOf, readEntry, payloadPart, readPayload, pickEntry, severalEntry};
 ghost use Rattle.capgauze.specs.Stores.{Stored, atFront, atEnd};
 ghost use Rattle.capgauze.specs.Varints.{decodeVarint, decodeVarintCapped};
 ghost use Rattle.capgauze.specs.Writers.{encodeMessage, prependMessage, encodedLen, insertRecord};
@@ -81,10 +81,17 @@ pub enum Measured {
     Refused(Refusal),
 }
 
-// The first field of a tag, or that there is none, or why the message has none.
+// The only field of a tag, or that there is none, or why none is answered.
 pub enum Picked {
     Found(Field),
     Absent,
+    Refused(Refusal),
+}
+
+// How many fields there are of a tag, and the one at a number or that there is none there; or why the message has none.
+pub enum Several {
+    Found(usize, Field),
+    Absent(usize),
     Refused(Refusal),
 }
 
@@ -341,17 +348,33 @@ pub fn read_payload(message: &[u8], r: Record, table: &mut [u64]) -> Read
     read_message(part, 0, part.len(), table)
 }
 
-// The first field of a tag, in a message that is read whole.
+// How many fields of a tag a message has, which is read whole, and the one at a number, counted from 0.
+pub fn pick_at(s: &[u8], tag: u32, number: usize) -> Several
+    ensures { λ r. ⌜ r ≡ severalEntry (now (s .entry)) tag number ⌝ }
+{
+    if let Gated::Shut(r) = gate(s.len(), 0, s.len()) {
+        return Several::Refused(r);
+    }
+    match message::find_tag(s, 0, s.len(), tag, number) {
+        Sought::Found(f, n) => Several::Found(n, f),
+        Sought::Absent(n) => Several::Absent(n),
+        Sought::Refused(r) => Several::Refused(r),
+    }
+}
+
+// The only field of a tag, in a message that is read whole; Repeated where there are more.
 pub fn pick(s: &[u8], tag: u32) -> Picked
     ensures { λ r. ⌜ r ≡ pickEntry (now (s .entry)) tag ⌝ }
 {
-    if let Gated::Shut(r) = gate(s.len(), 0, s.len()) {
-        return Picked::Refused(r);
-    }
-    match message::find_tag(s, 0, s.len(), tag, 0) {
-        Sought::Found(f, _) => Picked::Found(f),
-        Sought::Absent(_) => Picked::Absent,
-        Sought::Refused(r) => Picked::Refused(r),
+    match pick_at(s, tag, 0) {
+        Several::Found(n, f) => {
+            if n == 1 {
+                return Picked::Found(f);
+            }
+            Picked::Refused(Refusal::Repeated)
+        }
+        Several::Absent(_) => Picked::Absent,
+        Several::Refused(r) => Picked::Refused(r),
     }
 }
 

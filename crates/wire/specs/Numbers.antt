@@ -1,7 +1,7 @@
 -- The paper's numbers.
 use Prim.Native.Nat.{ℕ}
 use Rattle.wire.specs.declared.Refusal.{Refusal}
-use Rattle.wire.specs.declared.Refusal.the-variants.{Truncated, InvalidVarint, TagOverflowed, TooLong, NoRoom, BadRecord, OutOfOrder, BadCap, WrongWireType, OutOfRange, MissingField}
+use Rattle.wire.specs.declared.Refusal.the-variants.{Truncated, InvalidVarint, TagOverflowed, TooLong, NoRoom, BadRecord, OutOfOrder, BadCap, WrongWireType, OutOfRange, Repeated, MissingField}
 use Rattle.wire.specs.declared.WireType.{WireType}
 use Rattle.wire.specs.declared.WireType.the-variants.{Varint, LengthDelimited, ThirtyTwoBit, SixtyFourBit}
 
@@ -17,6 +17,7 @@ numberOf OutOfOrder = 7
 numberOf BadCap = 8
 numberOf WrongWireType = 9
 numberOf OutOfRange = 10
+numberOf Repeated = 11
 numberOf MissingField = 13
 
 -- of a wire type

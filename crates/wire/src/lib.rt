@@ -54,6 +54,7 @@ pub enum Refusal {
     BadCap,
     WrongWireType,
     OutOfRange,
+    Repeated,
     MissingField,
 }
 

@@ -1,69 +1,41 @@
--- The gate, then the core; a refusal answers its number alone.
+-- What there is at number 0, if that is all.
 use mathlib.Core.Path.{_≡_, _∙_, ap, sym}
-use lib.ListN.{length}
-use Rattle.wire.specs.Reading.{readMessage}
-use Rattle.capgauze.specs.Gate.{through-shut, through-open}
-use Rattle.capgauze.specs.Messages.{pickEntry, pickedFrom, picked-sought}
+use borrow.Author.Tests.{eq-eqb, ne-eqb}
+use lib.Dec.{eqb}
+use Rattle.wire.specs.Choose.{choose}
+use Rattle.wire.specs.declared.Refusal.the-variants.{Repeated}
+use Rattle.capgauze.specs.declared.Picked.the-variants.{Found, Refused}
+use Rattle.capgauze.specs.Messages.{pickEntry, pickedFrom, picked-several}
 use borrow.Author.Needs.{needs}
 use Rattle.capgauze.proofs.pick.Statement.{statement}
 use Rattle.capgauze.proofs.pick.Tie as tie
 
-gate-requires : tie.Need-gate-requires
-gate-requires c κs = search needs
+pick-at-requires : tie.Need-pick-at-requires
+pick-at-requires c κs = search needs
 
-enum-known-r : tie.Need-enum-known-r
-enum-known-r c = search needs
+enum-known-n : tie.Need-enum-known-n
+enum-known-n c = search needs
+
+found : (c : tie.After-pick-at) → let a = c .before .before .args in pickEntry (a .s .now) (a .tag) ≡ pickedFrom (c .pick-at .result)
+found c = let a = c .before .before .args in picked-several (a .s .now) (a .tag) ∙ ap pickedFrom (sym (c .pick-at .ensures))
 
 returns : tie.Need-returns
-unfolding pickEntry
-returns c = sym (through-shut _ _ (sym (c .before .before .before .gate .ensures) ∙ c .before .r .given .1))
+returns c = sym (found (c .before .before .before .before) ∙ ap pickedFrom (c .before .before .n .given .1) ∙ rw (eq-eqb _ 1 (c .if1 .taken)))
 
 enum-told : tie.Need-enum-told
 enum-told c = search needs
 
-find-tag-requires : tie.Need-find-tag-requires
-find-tag-requires c κs = search needs
-
--- behind the gate the answer is what the core found
-found : (c : tie.After-find-tag) → let a = c .before .before .before .before .before .args in
-    pickEntry (a .s .now) (a .tag) ≡ pickedFrom (c .find-tag .result)
-unfolding pickEntry
-found c =
-    let a = c .before .before .before .before .before .args in
-    through-open _ _ (sym (c .before .before .before .gate .ensures) ∙ c .before .enum-told .given .1)
-    ∙ picked-sought (a .tag) (readMessage (a .s .now) 0 (length (a .s .now)))
-    ∙ ap pickedFrom (sym (c .find-tag .ensures))
-
-enum-known-f : tie.Need-enum-known-f
-enum-known-f c = search needs
-
-enum-told-2 : tie.Need-enum-told-2
-enum-told-2 c = search needs
-
-enum-known-r-2 : tie.Need-enum-known-r-2
-enum-known-r-2 c = search needs
+enum-known-r : tie.Need-enum-known-r
+enum-known-r c = search needs
 
 returns-2 : tie.Need-returns-2
-returns-2 c = sym (found (c .before .before .before) ∙ ap pickedFrom (c .before .f .given .1))
+returns-2 c = sym (found (c .before .before .before .before) ∙ ap pickedFrom (c .before .before .n .given .1) ∙ rw (ne-eqb _ 1 (c .if1 .left)))
 
 returns-3 : tie.Need-returns-3
-returns-3 c = sym (found (c .before .before) ∙ ap pickedFrom (c .enum-told2 .given .1))
+returns-3 c = sym (found (c .before .before) ∙ ap pickedFrom (c .enum-told .given .1))
 
 returns-4 : tie.Need-returns-4
-returns-4 c = sym (found (c .before .before .before) ∙ ap pickedFrom (c .before .r2 .given .1))
+returns-4 c = sym (found (c .before .before .before) ∙ ap pickedFrom (c .before .r .given .1))
 
 pub pick-spec : {M : Type 1} → statement M
-pick-spec =
-    tie.close
-    (tie.spec
-    gate-requires
-    enum-known-r
-    returns
-    enum-told
-    find-tag-requires
-    enum-known-f
-    enum-told-2
-    enum-known-r-2
-    returns-2
-    returns-3
-    returns-4)
+pick-spec = tie.close (tie.spec pick-at-requires enum-known-n returns enum-told enum-known-r returns-2 returns-3 returns-4)
