@@ -24,6 +24,8 @@ use Rattle.capgauze.specs.declared.Measured.{Measured}
 use Rattle.capgauze.specs.declared.Measured.the-variants as measured
 use Rattle.capgauze.specs.declared.Picked.{Picked}
 use Rattle.capgauze.specs.declared.Picked.the-variants as picked
+use Rattle.capgauze.specs.declared.Several as several
+use Rattle.capgauze.specs.declared.Several.the-variants as severalAs
 
 -- a length or a count
 pub record Number : Type 0 where
@@ -116,6 +118,20 @@ abbrev pub pickedTold : Picked → Pick
 pickedTold (picked.Found f) = record { number = 0; found = 1; type = kindWord (f .value); value = valueWord (f .value); length = lengthWord (f .value) }
 pickedTold picked.Absent = record { number = 0; found = 0; type = 0; value = 0; length = 0 }
 pickedTold (picked.Refused r) = record { number = numberOf r; found = 0; type = 0; value = 0; length = 0 }
+
+-- how many there are of a tag, then the same of the one at a number
+pub record Several : Type 0 where
+  pub number : ℕ
+  pub count : ℕ
+  pub found : ℕ
+  pub type : ℕ
+  pub value : ℕ
+  pub length : ℕ
+
+abbrev pub severalTold : several.Several → Several
+severalTold (severalAs.Found n f) = record { number = 0; count = n; found = 1; type = kindWord (f .value); value = valueWord (f .value); length = lengthWord (f .value) }
+severalTold (severalAs.Absent n) = record { number = 0; count = n; found = 0; type = 0; value = 0; length = 0 }
+severalTold (severalAs.Refused r) = record { number = numberOf r; count = 0; found = 0; type = 0; value = 0; length = 0 }
 
 -- a message that was written: its start and its length
 pub record Wrote : Type 0 where

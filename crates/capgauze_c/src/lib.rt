@@ -7,19 +7,20 @@ ghost use Rattle.wire.specs.Table.{kindWord, valueWord, lengthWord};
 ghost use Rattle.wire.specs.Varint.{encode};
 ghost use Rattle.wire.specs.Signed.{toUnsigned, toSigned};
 ghost use Rattle.message.specs.Payload.{spanOf};
-ghost use Rattle.capgauze.specs.Told.{putTold, varintTold, readTold, pickedTold, measuredTold, keyTold, valueTold, skippedTold, stepTold, writtenTold, insertedTold};
+ghost use Rattle.capgauze.specs.Told.{putTold, varintTold, readTold, pickedTold, severalTold, measuredTold, keyTold, valueTold, skippedTold, stepTold, writtenTold, insertedTold};
 ghost use Rattle.capgauze.specs.Writers.{encodeMessage, prependMessage, encodedLen, insertRecord};
 ghost use Rattle.capgauze.specs.Fields.{decodeKey, keyAtFront, keyAtEnd, keyLen, decodeValue, skipField, stepEntry};
 ghost use Rattle.capgauze.specs.Varints.{decodeVarint, decodeVarintCapped};
 ghost use Rattle.capgauze.specs.Stores.{atFront, atEnd};
-ghost use Rattle.capgauze.specs.Messages.{readEntry, readPayload, pickEntry};
+ghost use Rattle.capgauze.specs.Messages.{readEntry, readPayload, pickEntry, severalEntry};
 ghost use Rattle.sounding.specs.Told.{soundingTold};
 ghost use Rattle.sounding.specs.Words.{readSounding};
-ghost use Rattle.capgauze_c.specs.Words.{Lent, asNumber, asVarint, asRead, asPicked, asPart, asWritten, writingTold, insertionTold, asKey, asValue, asPlace, asStep, typedOf, keyStored, valueTyped, placeTyped, storedTold, outcomeTold, asSounding, levelsTold};
+ghost use Rattle.capgauze_c.specs.Words.{Lent, asNumber, asVarint, asRead, asPicked, asSeveral, asPart, asWritten, writingTold, insertionTold, asKey, asValue, asPlace, asStep, typedOf, keyStored, valueTyped, placeTyped, storedTold, outcomeTold, asSounding, levelsTold};
 use capgauze::KeyRead;
 use capgauze::Measured;
 use capgauze::Picked;
 use capgauze::Put;
+use capgauze::Several;
 use capgauze::Skipped;
 use capgauze::Step;
 use capgauze::ValueRead;
@@ -57,6 +58,16 @@ pub struct ReadWords {
 #[repr(C)]
 pub struct PickWords {
     pub number: u64,
+    pub found: u64,
+    pub kind: u64,
+    pub value: u64,
+    pub length: u64,
+}
+
+#[repr(C)]
+pub struct SeveralWords {
+    pub number: u64,
+    pub count: u64,
     pub found: u64,
     pub kind: u64,
     pub value: u64,
@@ -416,6 +427,41 @@ fn pick_words(p: Picked) -> PickWords
     }
 }
 
+fn several_words(p: Several) -> SeveralWords
+    ensures { λ r. ⌜ asSeveral r ≡ severalTold p ⌝ }
+{
+    match p {
+        Several::Found(n, f) => {
+            let v = f.value;
+            let w = value_words(v);
+            SeveralWords {
+                number: 0,
+                count: n as u64,
+                found: 1,
+                kind: w.kind,
+                value: w.value,
+                length: w.length,
+            }
+        }
+        Several::Absent(n) => SeveralWords {
+            number: 0,
+            count: n as u64,
+            found: 0,
+            kind: 0,
+            value: 0,
+            length: 0,
+        },
+        Several::Refused(r) => SeveralWords {
+            number: number_of(r),
+            count: 0,
+            found: 0,
+            kind: 0,
+            value: 0,
+            length: 0,
+        },
+    }
+}
+
 fn sounding_words(a: Sounding) -> SoundingWords
     ensures { λ r. ⌜ asSounding r ≡ soundingTold a ⌝ }
 {
@@ -638,12 +684,20 @@ pub extern "C" fn capgauze_read_payload(
     capgauze_read_message(part, 0, part.len(), table)
 }
 
-// The first field of a tag.
+// The only field of a tag; Repeated where there are more.
 #[no_mangle]
 pub extern "C" fn capgauze_pick(s: &[u8], tag: u32) -> PickWords
     ensures { λ r. ⌜ asPicked r ≡ pickedTold (pickEntry (now (s .entry)) tag) ⌝ }
 {
     pick_words(capgauze::pick(s, tag))
+}
+
+// How many fields there are of a tag, and the one at a number, counted from 0.
+#[no_mangle]
+pub extern "C" fn capgauze_pick_at(s: &[u8], tag: u32, number: usize) -> SeveralWords
+    ensures { λ r. ⌜ asSeveral r ≡ severalTold (severalEntry (now (s .entry)) tag number) ⌝ }
+{
+    several_words(capgauze::pick_at(s, tag, number))
 }
 
 // ---- writing
