@@ -1,5 +1,7 @@
 // The program `replay`: the fixed list of the oracle's answers, asked of the entries as C is handed them. It prints each case that is answered
 // otherwise, and last how many there were and how many differ. oracle/README.md has the list's form.
+use capgauze_c::PickWords;
+use capgauze_c::SeveralWords;
 use libc::STDOUT_FILENO;
 use wire::RECORD_WORDS;
 
@@ -11,6 +13,9 @@ const WORDS: usize = 2_048;
 const BAD: usize = 2_049;
 
 type Words = [u64; WORDS];
+
+// The fields of a tag that an answer has room for.
+const FIELDS: usize = 600;
 
 const SOURCE_ROOM: usize = 65_536;
 
@@ -597,26 +602,66 @@ fn ask_payload(s: &[u8], words: &Words, ours: &mut Words) -> usize {
     two(ours, r.start, r.length)
 }
 
-// The list has all fields of a tag, pick the first one: number and found, and where it was found its three words.
-fn ask_pick(s: &[u8], words: &Words, ours: &mut Words) -> usize {
-    let r = capgauze_c::capgauze_pick(s, tag_of(words[0]));
-    two(ours, r.number, r.found);
-    ours[2] = r.kind;
-    ours[3] = r.value;
-    ours[4] = r.length;
-    if r.found == 0 { 2 } else { 5 }
+// Each field of a tag by its number, behind an answer's first two words, up to the first number that has none. No words where the fields are
+// not as many as the count, or the count is not the same each time.
+fn put_fields(s: &[u8], tag: u32, count: u64, ours: &mut Words) -> usize {
+    let mut k = 0;
+    while k < FIELDS {
+        let r = capgauze_c::capgauze_pick_at(s, tag, k);
+        if r.count != count {
+            return 0;
+        }
+        if r.found == 0 {
+            return if k as u64 == count { 2 + 3 * k } else { 0 };
+        }
+        ours[2 + 3 * k] = r.kind;
+        ours[3 + 3 * k] = r.value;
+        ours[4 + 3 * k] = r.length;
+        k += 1;
+    }
+    0
 }
 
-// The list's words that an answer can have: of a case of pick up to the first field.
-fn listed(c: Case, words: &mut Words) -> usize {
-    let n = c.words;
-    if c.letter != b'x' {
-        return n;
+fn is_picked(p: PickWords, number: u64, found: u64, kind: u64, value: u64, length: u64) -> bool {
+    if p.number != number {
+        return false;
     }
-    if 1 < words[2] {
-        words[2] = 1;
+    if p.found != found {
+        return false;
     }
-    if 6 < n { 6 } else { n }
+    if p.kind != kind {
+        return false;
+    }
+    if p.value != value {
+        return false;
+    }
+    p.length == length
+}
+
+// Whether pick answers what there is at number 0, and Repeated where that is not all.
+fn is_only(p: PickWords, first: SeveralWords) -> bool {
+    if 1 < first.count {
+        return is_picked(p, 11, 0, 0, 0, 0);
+    }
+    is_picked(
+        p,
+        first.number,
+        first.found,
+        first.kind,
+        first.value,
+        first.length,
+    )
+}
+
+// The list has all fields of a tag. They are asked of pick_at, and pick has to go with them.
+fn ask_pick(s: &[u8], words: &Words, ours: &mut Words) -> usize {
+    let tag = tag_of(words[0]);
+    let first = capgauze_c::capgauze_pick_at(s, tag, 0);
+    if is_only(capgauze_c::capgauze_pick(s, tag), first) {
+        two(ours, first.number, first.count);
+        return put_fields(s, tag, first.count, ours);
+    }
+    0
 }
 
 // ---- the entries on tables
@@ -788,7 +833,7 @@ fn not_a_line(text: &[u8], st: State) -> State {
 fn ask_case(
     text: &[u8],
     c: Case,
-    words: &mut Words,
+    words: &Words,
     source: &[u8],
     table: &mut [u64],
     st: State,
@@ -807,7 +852,7 @@ fn ask_case(
         return not_a_line(text, st);
     }
     let n = answer(letter, &source[0..s], &mut table[0..t], words, &mut ours);
-    let end = listed(c, words);
+    let end = c.words;
     let next = st.with_table(t);
     if same(words, c.asked, end, &ours, n) {
         return next.right();
@@ -821,7 +866,7 @@ fn take_line(text: &[u8], source: &mut [u8], table: &mut [u64], st: State) -> St
     match form_of(text, &mut words) {
         Form::Title => st,
         Form::Sets(letter, n) => set_lent(text, letter, n, &words, source, table, st),
-        Form::Asks(c) => ask_case(text, c, &mut words, source, table, st),
+        Form::Asks(c) => ask_case(text, c, &words, source, table, st),
         Form::Bad => not_a_line(text, st),
     }
 }
