@@ -84,7 +84,7 @@ pub fn find_tag(s: &[u8], start: usize, end: usize, tag: u32, number: usize) -> 
 {
     let mut p = start;
     let mut last: u32 = 0;
-    let mut count: usize = 0;
+    let mut many: usize = 0;
     let mut found = Field {
         tag: 0,
         value: Value::Varint(0),
@@ -103,17 +103,17 @@ pub fn find_tag(s: &[u8], start: usize, end: usize, tag: u32, number: usize) -> 
                 if last != tag {
                     continue;
                 }
-                if count == number {
+                if many == number {
                     found = f;
                 }
-                count += 1;
+                many += 1;
             }
         }
     }
-    if number < count {
-        return Sought::Found(found, count);
+    if number < many {
+        return Sought::Found(found, many);
     }
-    Sought::Absent(count)
+    Sought::Absent(many)
 }
 
 // A varint of any length that is known to be good: no byte is missing, and the ninth is not too large.

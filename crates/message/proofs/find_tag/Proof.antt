@@ -19,11 +19,11 @@ use Rattle.message.proofs.find_tag.Tie as tie
 
 -- the fields passed so far, and what they have shown
 abbrev Inv-loop : tie.InvT-loop
-Inv-loop s start end tag number p₀ last₀ count₀ found₀ p last count found =
-    (m : ℕ) × (fs : List Field) × Walk s start end m p last fs × Seen tag number fs count found
+Inv-loop s start end tag number p₀ last₀ many₀ found₀ p last many found =
+    (m : ℕ) × (fs : List Field) × Walk s start end m p last fs × Seen tag number fs many found
 
 abbrev μ-loop : tie.MeasureT-loop
-μ-loop s start end tag number p₀ last₀ count₀ found₀ p last count found = length s - p
+μ-loop s start end tag number p₀ last₀ many₀ found₀ p last many found = length s - p
 
 loop-holds : tie.Need-loop-holds Inv-loop μ-loop
 loop-holds c = (_, [], walk-start _ _ _, seen-none _ _ _)
@@ -63,8 +63,8 @@ loop-again c =
     let i = c .before .before .before .before .before .loop .inv in
     (_, _, walk-step (i .2) _ _ (turn (c .before)), seen-other (i .3) _ (c .if1 .taken))
 
-add-count : tie.Need-add-count Inv-loop μ-loop
-add-count c =
+add-many : tie.Need-add-many Inv-loop μ-loop
+add-many c =
     let i = c .before .before .before .before .before .before .loop .inv in
     let m = moves (c .before .before) in
     omega (arith, m .0, m .1, i .2 .counted, seen-few (i .3), c .before .before .before .before .before .before .before .before .good .0 .0)
@@ -107,7 +107,7 @@ find-tag-spec =
     enum-known-f
     loop-less
     loop-again
-    add-count
+    add-many
     loop-less-2
     loop-again-2
     returns-2
