@@ -40,6 +40,7 @@ enum {
     CAPGAUZE_BAD_CAP = 8,        /* a place, start or end above the slice's length */
     CAPGAUZE_WRONG_WIRE_TYPE = 9, /* a sounding's field of another wire type */
     CAPGAUZE_OUT_OF_RANGE = 10,  /* a station, pressure, temperature or depression outside its range */
+    CAPGAUZE_REPEATED = 11,      /* a tag that stands more than once where one field of it is wanted */
     CAPGAUZE_MISSING_FIELD = 13  /* a sounding without station or launch, a level without pressure */
 };
 
@@ -65,6 +66,7 @@ typedef struct { uint64_t number, found, tag, type, value, length, place; } capg
 typedef struct { uint64_t number, place, count; } capgauze_read;
 typedef struct { uint64_t number, start, length; } capgauze_written;
 typedef struct { uint64_t number, found, type, value, length; } capgauze_picked;
+typedef struct { uint64_t number, count, found, type, value, length; } capgauze_several;
 typedef struct { uint64_t start, length; } capgauze_part;
 typedef struct { uint64_t number, station, launch, levels; } capgauze_sounding;
 
@@ -124,9 +126,13 @@ capgauze_part capgauze_payload_of(const uint8_t *s, size_t s_len, uint64_t tag, 
 capgauze_read capgauze_read_payload(const uint8_t *s, size_t s_len, uint64_t tag, uint64_t type, uint64_t value,
                                     uint64_t length, uint64_t *table, size_t words);
 
-/* Reads the whole message and answers the first field of the tag: found is 1, and type, value, length are its record's.
- * Absent: found is 0. Refused: the number alone. */
+/* Reads the whole message and answers the only field of the tag: found is 1, and type, value, length are its record's.
+ * Absent: found is 0. Refused: the number alone; Repeated, after the message's own refusals, where there are more. */
 capgauze_picked capgauze_pick(const uint8_t *s, size_t s_len, uint32_t tag);
+
+/* Reads the whole message and answers how many fields the tag has, and the one at a number, counted from 0, as above.
+ * Absent: found is 0, and count still says how many. Refused: the number alone. */
+capgauze_several capgauze_pick_at(const uint8_t *s, size_t s_len, uint32_t tag, size_t number);
 
 /* ---- Soundings ---- */
 
@@ -136,7 +142,7 @@ capgauze_picked capgauze_pick(const uint8_t *s, size_t s_len, uint32_t tag);
 
 /* Reads a whole sounding: its station, its launch in seconds and the number of its levels, whose words go into `levels`
  * in their order; the words behind them stay. Refusals in order: the sounding's own as a message; then tag by tag
- * WrongWireType, MissingField, OutOfRange, each level as a message in itself and its tags likewise; last NoRoom, if there
+ * Repeated, WrongWireType, MissingField, OutOfRange, each level as a message in itself and its tags likewise; last NoRoom, if there
  * are more levels than words / CAPGAUZE_LEVEL_WORDS. Refused: the number alone, and `levels` stays as it was. */
 capgauze_sounding capgauze_read_sounding(const uint8_t *s, size_t s_len, uint64_t *levels, size_t words);
 

@@ -114,8 +114,16 @@ static void messages(void) {
     SAME(capgauze_read_message(S, 0, 18, TABLE), 1, 14, 0);
     SAME(capgauze_read_message(S, 0, 20, TABLE), 8, 0, 0);
     TABLE_IS(77, 77, 77, 77, 77, 77, 77, 77, 77, 77, 77);
-    SAME(capgauze_pick(S, 3), 0, 1, 1, 12, 2);
+    SAME(capgauze_pick(S, 3), 11, 0, 0, 0, 0);
+    SAME(capgauze_pick(S, 1), 0, 1, 0, UINT64_MAX, 0);
     SAME(capgauze_pick(S, 2), 0, 0, 0, 0, 0);
+    SAME(capgauze_pick_at(S, 3, 0), 0, 2, 1, 1, 12, 2);
+    SAME(capgauze_pick_at(S, 3, 1), 0, 2, 1, 2, 1, 4);
+    SAME(capgauze_pick_at(S, 3, 2), 0, 2, 0, 0, 0, 0);
+    SAME(capgauze_pick_at(S, 2, 0), 0, 0, 0, 0, 0, 0);
+    use("0405000700");
+    SAME(capgauze_pick(S, 1), 1, 0, 0, 0, 0);
+    SAME(capgauze_pick_at(S, 1, 0), 1, 0, 0, 0, 0, 0);
     use("0000050504000100");
     SAME(capgauze_payload_of(S, 0, 1, 4, 3), 4, 3);
     SAME(capgauze_payload_of(S, 0, 0, 4, 0), 0, 0);

@@ -28,7 +28,7 @@ RECORD_WORDS = 4
 LEVEL_WORDS = 5
 VARINT, LENGTH_DELIMITED, THIRTY_TWO_BIT, SIXTY_FOUR_BIT = range(4)
 NAMES = ("accepted", "Truncated", "InvalidVarint", "TagOverflowed", "TooLong", "NoRoom", "BadRecord", "OutOfOrder",
-         "BadCap", "WrongWireType", "OutOfRange", None, None, "MissingField")
+         "BadCap", "WrongWireType", "OutOfRange", "Repeated", None, "MissingField")
 
 # What accepted calls answer; a record's words are a table's.
 Record = namedtuple("Record", "tag type value length")
@@ -39,6 +39,7 @@ Step = namedtuple("Step", "tag type value length place")
 Read = namedtuple("Read", "place count")
 Written = namedtuple("Written", "start length")
 Picked = namedtuple("Picked", "type value length")
+Several = namedtuple("Several", "count picked")
 Sounding = namedtuple("Sounding", "station launch levels")
 Level = namedtuple("Level", "pressure_pa temperature_c dewpoint_depression_c")
 
@@ -90,6 +91,7 @@ _ENTRIES = {
     "encoded_len_message": (_WRITTEN, *_BYTES, *_TABLE, _SIZE),
     "insert": (_NUMBER, *_BYTES, *_TABLE, _SIZE, *_RECORD),
     "pick": (_answer("number found type value length"), *_BYTES, _U32),
+    "pick_at": (_answer("number count found type value length"), *_BYTES, _U32, _SIZE),
     "read_sounding": (_answer("number station launch levels"), *_BYTES, *_TABLE),
 }
 
@@ -239,13 +241,28 @@ def read_payload(s, record, table):
 
 
 def pick(s, tag):
-    """Reads the whole message: the first field of the tag, or None.
+    """Reads the whole message: the only field of the tag, or None; Repeated where there are more.
 
+    >>> pick(bytes.fromhex("040504010000"), 1)
+    Picked(type=0, value=5, length=0)
     >>> pick(bytes.fromhex("040504010000"), 2)
-    Picked(type=0, value=1, length=0)
+    Traceback (most recent call last):
+    capgauze.Refused: Repeated (11)
     """
     found, *picked = _accepted("pick", *lent(s), tag)
     return Picked(*picked) if found else None
+
+
+def pick_at(s, tag, number):
+    """Reads the whole message: how many fields the tag has, and the one at a number, counted from 0, or None.
+
+    >>> pick_at(bytes.fromhex("040504010000"), 2, 1)
+    Several(count=2, picked=Picked(type=0, value=0, length=0))
+    >>> pick_at(bytes.fromhex("040504010000"), 2, 2)
+    Several(count=2, picked=None)
+    """
+    count, found, *picked = _accepted("pick_at", *lent(s), tag, number)
+    return Several(count, Picked(*picked) if found else None)
 
 
 # ---- Soundings ----

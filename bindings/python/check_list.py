@@ -49,7 +49,7 @@ class Replay:
         self.answers = {
             "v": reader("decode_varint"), "c": reader("decode_varint_capped"), "k": reader("decode_key"),
             "d": reader("decode_value"), "s": reader("skip_field"), "f": reader("step_at"), "o": reader("payload_of"),
-            "x": reader("pick"), "l": on_table("encoded_len_message"),
+            "x": lambda tag: index(self.source, tag), "l": on_table("encoded_len_message"),
             "m": self.read("read_message"), "M": self.read("read_message", summed=True), "r": self.read("read_payload"),
             "w": self.write("encode_message"), "W": self.write("encode_message", summed=True),
             "q": self.write("prepend_message"), "Q": self.write("prepend_message", summed=True),
@@ -99,9 +99,14 @@ class Replay:
         return answer
 
 
-def picked(number, count, *values):
-    """The list has all values of a tag; pick answers the first."""
-    return [number, min(count, 1), *(values[:3] or (0, 0, 0))]
+def index(source, tag):
+    """All fields of a tag by pick_at, up to the first number that has none; and pick has to go with them."""
+    number, count, *first = call("pick_at", *lent(source), tag, 0)
+    told, fields = [number, count], 0
+    while (at := call("pick_at", *lent(source), tag, fields))[2]:
+        told, fields = [*told, *at[3:]], fields + 1
+    picked = [11, 0, 0, 0, 0] if count > 1 else [number, *first]
+    return told if fields == count and list(call("pick", *lent(source), tag)) == picked else ["pick and pick_at differ"]
 
 
 def check(path=LIST):
@@ -116,9 +121,8 @@ def check(path=LIST):
                 replay.set(line[0], asked)
                 continue
             cases += 1
-            wanted = picked(*expected[0]) if line[0] == "x" else expected[0]
             answered = list(replay.answers[line[0]](*asked))
-            if answered != wanted:
+            if answered != expected[0]:
                 differences.append(f"{number}: {line.strip()[:300]} answered {answered[:40]}")
     return cases, differences
 

@@ -97,8 +97,17 @@ class Messages(unittest.TestCase):
         self.assertEqual(seen, RECORDS)
 
     def test_pick(self):
-        self.assertEqual(capgauze.pick(MESSAGE, 3), (1, 12, 2))
+        self.assertEqual(capgauze.pick(MESSAGE, 1), (0, 2**64 - 1, 0))
         self.assertIsNone(capgauze.pick(MESSAGE, 2))
+        with self.assertRaises(capgauze.Refused) as caught:
+            capgauze.pick(MESSAGE, 3)
+        self.assertEqual((caught.exception.number, caught.exception.name), (11, "Repeated"))
+
+    def test_pick_at(self):
+        self.assertEqual(capgauze.pick_at(MESSAGE, 3, 0), (2, (1, 12, 2)))
+        self.assertEqual(capgauze.pick_at(MESSAGE, 3, 1), (2, (2, 1, 4)))
+        self.assertEqual(capgauze.pick_at(MESSAGE, 3, 2), (2, None))
+        self.assertEqual(capgauze.pick_at(MESSAGE, 2, 0), (0, None))
 
     def test_both_ways(self):
         table = array("Q", (word for record in RECORDS for word in record))
@@ -153,6 +162,7 @@ class Soundings(unittest.TestCase):
     def test_refused_leaves_the_table(self):
         table = array("Q", [77] * 5)
         for sounding, name in [("0400", "OutOfRange"), ("0401", "MissingField"), ("0500", "WrongWireType"),
+                               ("040100010400", "Repeated"),
                                ("04010400050E", "Truncated")]:
             with self.assertRaises(capgauze.Refused) as caught:
                 capgauze.read_sounding(bytes.fromhex(sounding), table)

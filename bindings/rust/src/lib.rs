@@ -45,9 +45,9 @@ compile_error!("capgauze is for 64-bit lengths");
 /// `Ok` of an accepted answer, or its refusal. The library's numbers are those of [`Refusal`].
 fn accepted(number: u64) -> Result<(), Refusal> {
     use Refusal::*;
-    const ALL: [Refusal; 11] = [
+    const ALL: [Refusal; 12] = [
         Truncated, InvalidVarint, TagOverflowed, TooLong, NoRoom, BadRecord, OutOfOrder, BadCap, WrongWireType,
-        OutOfRange, MissingField,
+        OutOfRange, Repeated, MissingField,
     ];
     match number {
         0 => Ok(()),
@@ -363,13 +363,14 @@ pub fn read_payload(
     read(unsafe { ffi::capgauze_read_payload(s, len, tag, wire_type, value, length, to, words) })
 }
 
-/// Reads the whole message: the first value of a tag, or `None`. Refusals: TooLong, Truncated, InvalidVarint,
-/// TagOverflowed.
+/// Reads the whole message: the only value of a tag, or `None`. Refusals: TooLong, Truncated, InvalidVarint,
+/// TagOverflowed; then Repeated, where the tag has more.
 ///
 /// ```
-/// # use capgauze::{pick, Value};
+/// # use capgauze::{pick, Refusal, Value};
 /// assert_eq!(pick(&[0x04, 0x07, 0x04, 0x08], 2), Ok(Some(Value::Varint(8))));
 /// assert_eq!(pick(&[0x04, 0x07, 0x04, 0x08], 3), Ok(None));
+/// assert_eq!(pick(&[0x04, 0x07, 0x00, 0x08], 1), Err(Refusal::Repeated));
 /// ```
 pub fn pick(s: &[u8], tag: u32) -> Result<Option<Value>, Refusal> {
     let answer = unsafe { ffi::capgauze_pick(s.as_ptr(), s.len(), tag) };
@@ -377,10 +378,24 @@ pub fn pick(s: &[u8], tag: u32) -> Result<Option<Value>, Refusal> {
     Ok((answer.found != 0).then(|| value(answer.kind, answer.value, answer.length)))
 }
 
+/// Reads the whole message: how many values a tag has, and the one at a number, counted from 0, or `None`. Refusals: TooLong,
+/// Truncated, InvalidVarint, TagOverflowed.
+///
+/// ```
+/// # use capgauze::{pick_at, Value};
+/// assert_eq!(pick_at(&[0x04, 0x07, 0x00, 0x08], 1, 1), Ok((2, Some(Value::Varint(8)))));
+/// assert_eq!(pick_at(&[0x04, 0x07, 0x00, 0x08], 1, 2), Ok((2, None)));
+/// ```
+pub fn pick_at(s: &[u8], tag: u32, number: usize) -> Result<(usize, Option<Value>), Refusal> {
+    let answer = unsafe { ffi::capgauze_pick_at(s.as_ptr(), s.len(), tag, number) };
+    accepted(answer.number)?;
+    Ok((answer.count as usize, (answer.found != 0).then(|| value(answer.kind, answer.value, answer.length))))
+}
+
 // ---- Soundings ----
 
 /// Reads a whole sounding; its levels go into the table, five words each ([`Level::at`] puts names on them). Refusals: as a
-/// message; then tag by tag WrongWireType, MissingField, OutOfRange; last NoRoom. A refused call leaves the table as it was.
+/// message; then tag by tag Repeated, WrongWireType, MissingField, OutOfRange; last NoRoom. A refused call leaves the table as it was.
 ///
 /// ```
 /// # use capgauze::{read_sounding, Level, Sounding};

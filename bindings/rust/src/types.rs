@@ -169,6 +169,8 @@ pub enum Refusal {
     WrongWireType = 9,
     /// A station, pressure, temperature or depression outside its range.
     OutOfRange = 10,
+    /// A tag that stands more than once where one field of it is wanted.
+    Repeated = 11,
     /// A sounding without station or launch, or a level without pressure.
     MissingField = 13,
 }

@@ -27,6 +27,7 @@ fn empty_slices() {
         assert_eq!(prepend_key(1, 0, wire_type, &mut []), Err(Refusal::OutOfOrder));
     }
     assert_eq!(pick(&[], 0), Ok(None));
+    assert_eq!(pick_at(&[], 0, 0), Ok((0, None)));
     assert_eq!(fields(&[]).next(), None);
     assert_eq!(encode_varint(0, &mut []), Err(Refusal::NoRoom));
     assert_eq!(prepend_varint(0, &mut []), Err(Refusal::NoRoom));

@@ -259,10 +259,20 @@ impl Against {
             0 => self.chance.rise(),
             len => records[self.chance.below(len)][0] as u32,
         };
-        let first = |values: Vec<[u64; 3]>| {
-            values.first().map(|&[kind, number, length]| value(kind, number, length))
+        let index = Blob::index(s, tag).map_err(named);
+        let at = |values: &[[u64; 3]], number: usize| {
+            values.get(number).map(|&[kind, number, length]| value(kind, number, length))
         };
-        same!(self, pick(s, tag), Blob::index(s, tag).map(first).map_err(named), s, tag);
+        let only = index.clone().and_then(|values| match values.len() {
+            0 | 1 => Ok(at(&values, 0)),
+            _ => Err(Refusal::Repeated),
+        });
+        same!(self, pick(s, tag), only, s, tag);
+        let last = index.as_ref().map_or(0, Vec::len);
+        for number in [0, last.saturating_sub(1), last] {
+            let theirs = index.clone().map(|values| (values.len(), at(&values, number)));
+            same!(self, pick_at(s, tag, number), theirs, s, tag, number);
+        }
 
         let fields: Result<Vec<Field>, RefusedAfter> = fields(s).collect();
         let theirs =
