@@ -29,3 +29,4 @@ pub mod Insertion
 pub mod InsertionLaws
 pub mod WritingCases
 pub mod ReadBack
+pub mod Cut

@@ -46,7 +46,7 @@ bytes-take (suc m) (b ∷ bs) h (suc i) = bytes-take m bs (λ j. h (suc j)) i
 
 -- ---- varints
 
-judged-got : (p : ℕ) (a : Sum) (v q : ℕ) → judged p a ≡ varintFound.Got v q → (n : ℕ) × (a ≡ Adds v n) × (q ≡ p + n) × (v < 2 ^ 64)
+pub judged-got : (p : ℕ) (a : Sum) (v q : ℕ) → judged p a ≡ varintFound.Got v q → (n : ℕ) × (a ≡ Adds v n) × (q ≡ p + n) × (v < 2 ^ 64)
 judged-got p (Adds w n) v q e = go (ltb w (2 ^ 64)) refl
   where
     go : (t : Bool) → ltb w (2 ^ 64) ≡ t → (m : ℕ) × (Adds w n ≡ Adds v m) × (q ≡ p + m) × (v < 2 ^ 64)

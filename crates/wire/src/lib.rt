@@ -98,6 +98,13 @@ pub enum Read {
     Refused(Refusal, usize, usize),
 }
 
+// What a search from the front answers: the only field of a tag or that there is none, and the number of keys read; or why not.
+pub enum Early {
+    Found(Field, usize),
+    Absent(usize),
+    Refused(Refusal),
+}
+
 // What a writer answers: the start and the length of what it wrote, or a refusal and the two numbers that stand there instead.
 pub enum Written {
     At(usize, usize),
