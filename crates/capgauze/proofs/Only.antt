@@ -51,6 +51,8 @@ use Rattle.capgauze.proofs.pick_at.Kinds as pick-at
 use Rattle.capgauze.proofs.pick_at.Reads as pick-at-reads
 use Rattle.capgauze.proofs.pick.Kinds as pick
 use Rattle.capgauze.proofs.pick.Reads as pick-reads
+use Rattle.capgauze.proofs.pick_early.Kinds as pick-early
+use Rattle.capgauze.proofs.pick_early.Reads as pick-early-reads
 use Rattle.capgauze.proofs.encode_message.Kinds as encode-message
 use Rattle.capgauze.proofs.encode_message.Reads as encode-message-reads
 use Rattle.capgauze.proofs.prepend_message.Kinds as prepend-message
@@ -126,6 +128,9 @@ skip-field-one κs a x y s t p q = p ∙ sym q
 
 pub step-at-one : One 1 step-at.ps step-at.r step-at-reads.Post (λ κs r s. r)
 step-at-one κs a x y s t p q = p ∙ sym q
+
+pub pick-early-one : One 1 pick-early.ps pick-early.r pick-early-reads.Post (λ κs r s. r)
+pick-early-one κs a x y s t p q = p ∙ sym q
 
 pub encode-message-one : One 3 encode-message.ps encode-message.r encode-message-reads.Post {S = Writing} (λ κs r s. record { answer = r; buf = now (s .1 .1 .1 .0) })
 encode-message-one κs a x y s t p q = p ∙ sym q

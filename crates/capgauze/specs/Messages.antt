@@ -16,6 +16,9 @@ use Rattle.wire.specs.declared.Refusal.the-variants.{Repeated}
 use Rattle.wire.specs.declared.Field.{Field}
 use Rattle.wire.specs.declared.Record.{Record}
 use Rattle.wire.specs.declared.Read.the-variants.{Refused}
+use Rattle.wire.specs.declared.Early.{Early}
+use Rattle.wire.specs.declared.Early.the-variants as early
+use Rattle.early.specs.Early.{stop, earlyOf}
 use Rattle.message.specs.Into.{Outcome, outcome, readInto}
 use Rattle.message.specs.Tags.{ofTag, firstOf, atNumber, sought}
 use Rattle.message.specs.Payload.{spanOf, payload}
@@ -122,3 +125,8 @@ picked-several s tag = go (gated (length s) 0 (length s))
     go : (g : Gated) → through g pickedAs.Refused (picked tag (readMessage s 0 (length s))) ≡ pickedFrom (through g severalAs.Refused (severalOf (sought tag 0 (readMessage s 0 (length s)))))
     go Open = picked-sought tag (readMessage s 0 (length s))
     go (Shut r) = refl
+
+-- ---- pick from the front: where the search stops, and what it answers
+
+unfoldable pub earlyEntry : List ℕ → ℕ → Early
+earlyEntry s tag = through (gated (length s) 0 (length s)) early.Refused (earlyOf tag (stop tag s))

@@ -4,6 +4,8 @@ use Rattle.wire.specs.Numbers.{numberOf, typeOf}
 use Rattle.wire.specs.Table.{kindWord, valueWord, lengthWord}
 use Rattle.wire.specs.declared.Read.{Read}
 use Rattle.wire.specs.declared.Read.the-variants as read
+use Rattle.wire.specs.declared.Early as earlyOf
+use Rattle.wire.specs.declared.Early.the-variants as early
 use Rattle.wire.specs.declared.Written.{Written}
 use Rattle.wire.specs.declared.Written.the-variants as written
 use Rattle.wire.specs.declared.Inserted.{Inserted}
@@ -132,6 +134,20 @@ abbrev pub severalTold : several.Several → Several
 severalTold (severalAs.Found n f) = record { number = 0; count = n; found = 1; type = kindWord (f .value); value = valueWord (f .value); length = lengthWord (f .value) }
 severalTold (severalAs.Absent n) = record { number = 0; count = n; found = 0; type = 0; value = 0; length = 0 }
 severalTold (severalAs.Refused r) = record { number = numberOf r; count = 0; found = 0; type = 0; value = 0; length = 0 }
+
+-- the number of keys read, then the same of the only one
+pub record Early : Type 0 where
+  pub number : ℕ
+  pub keys : ℕ
+  pub found : ℕ
+  pub type : ℕ
+  pub value : ℕ
+  pub length : ℕ
+
+abbrev pub earlyTold : earlyOf.Early → Early
+earlyTold (early.Found f n) = record { number = 0; keys = n; found = 1; type = kindWord (f .value); value = valueWord (f .value); length = lengthWord (f .value) }
+earlyTold (early.Absent n) = record { number = 0; keys = n; found = 0; type = 0; value = 0; length = 0 }
+earlyTold (early.Refused r) = record { number = numberOf r; keys = 0; found = 0; type = 0; value = 0; length = 0 }
 
 -- a message that was written: its start and its length
 pub record Wrote : Type 0 where

@@ -12,11 +12,12 @@ ghost use Rattle.wire.specs.Writing.{Writing};
 ghost use Rattle.wire.specs.Insertion.{Insertion};
 ghost use Rattle.capgauze.specs.Gate.{gated};
 ghost use Rattle.capgauze.specs.Test.{moreEntry};
-ghost use Rattle.capgauze.specs.Messages.{Part, partOf, readEntry, payloadPart, readPayload, pickEntry, severalEntry};
+ghost use Rattle.capgauze.specs.Messages.{Part, partOf, readEntry, payloadPart, readPayload, pickEntry, severalEntry, earlyEntry};
 ghost use Rattle.capgauze.specs.Stores.{Stored, atFront, atEnd};
 ghost use Rattle.capgauze.specs.Varints.{decodeVarint, decodeVarintCapped};
 ghost use Rattle.capgauze.specs.Writers.{encodeMessage, prependMessage, encodedLen, insertRecord};
 use message::Sought;
+use wire::Early;
 use wire::Field;
 use wire::Inserted;
 use wire::Key;
@@ -376,6 +377,16 @@ pub fn pick(s: &[u8], tag: u32) -> Picked
         Several::Absent(_) => Picked::Absent,
         Several::Refused(r) => Picked::Refused(r),
     }
+}
+
+// The only field of a tag before the first key above it, and the number of keys read: that key's value and what follows it are not read.
+pub fn pick_early(s: &[u8], tag: u32) -> Early
+    ensures { λ r. ⌜ r ≡ earlyEntry (now (s .entry)) tag ⌝ }
+{
+    if let Gated::Shut(r) = gate(s.len(), 0, s.len()) {
+        return Early::Refused(r);
+    }
+    early::find_early(s, tag)
 }
 
 // ---- tables written

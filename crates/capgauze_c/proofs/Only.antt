@@ -4,7 +4,7 @@ use denote.Ref.{now}
 use Rattle.wire.specs.Only.{One}
 use Rattle.capgauze.specs.Told as told
 use Rattle.sounding.specs.Told as soundings
-use Rattle.capgauze_c.specs.Words.{Lent, asNumber, asVarint, asKey, asValue, asPlace, asStep, asRead, asPicked, asSeveral, asPart, asWritten, asSounding}
+use Rattle.capgauze_c.specs.Words.{Lent, asNumber, asVarint, asKey, asValue, asPlace, asStep, asRead, asPicked, asSeveral, asEarly, asPart, asWritten, asSounding}
 use Rattle.capgauze_c.proofs.capgauze_encoded_len_varint.Kinds as encoded-len-varint
 use Rattle.capgauze_c.proofs.capgauze_encoded_len_varint.Reads as encoded-len-varint-reads
 use Rattle.capgauze_c.proofs.capgauze_i64_to_unsigned.Kinds as i64-to-unsigned
@@ -43,6 +43,8 @@ use Rattle.capgauze_c.proofs.capgauze_pick.Kinds as pick
 use Rattle.capgauze_c.proofs.capgauze_pick.Reads as pick-reads
 use Rattle.capgauze_c.proofs.capgauze_pick_at.Kinds as pick-at
 use Rattle.capgauze_c.proofs.capgauze_pick_at.Reads as pick-at-reads
+use Rattle.capgauze_c.proofs.capgauze_pick_early.Kinds as pick-early
+use Rattle.capgauze_c.proofs.capgauze_pick_early.Reads as pick-early-reads
 use Rattle.capgauze_c.proofs.capgauze_encode_message.Kinds as encode-message
 use Rattle.capgauze_c.proofs.capgauze_encode_message.Reads as encode-message-reads
 use Rattle.capgauze_c.proofs.capgauze_prepend_message.Kinds as prepend-message
@@ -110,6 +112,9 @@ pick-one κs a x y s t p q = p ∙ sym q
 
 pub pick-at-one : One 1 pick-at.ps pick-at.r pick-at-reads.Post (λ κs r s. asSeveral r)
 pick-at-one κs a x y s t p q = p ∙ sym q
+
+pub pick-early-one : One 1 pick-early.ps pick-early.r pick-early-reads.Post (λ κs r s. asEarly r)
+pick-early-one κs a x y s t p q = p ∙ sym q
 
 pub encode-message-one : One 3 encode-message.ps encode-message.r encode-message-reads.Post {S = Lent told.Wrote} (λ κs r s. record { told = asWritten r; lent = now (s .1 .1 .1 .0) })
 encode-message-one κs a x y s t p q = p ∙ sym q

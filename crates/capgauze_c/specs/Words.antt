@@ -22,6 +22,7 @@ use Rattle.capgauze_c.specs.declared.Varint.{Varint}
 use Rattle.capgauze_c.specs.declared.ReadWords.{ReadWords}
 use Rattle.capgauze_c.specs.declared.PickWords.{PickWords}
 use Rattle.capgauze_c.specs.declared.SeveralWords.{SeveralWords}
+use Rattle.capgauze_c.specs.declared.EarlyWords.{EarlyWords}
 use Rattle.capgauze_c.specs.declared.Part.{Part}
 use Rattle.capgauze_c.specs.declared.SoundingWords.{SoundingWords}
 use Rattle.capgauze_c.specs.declared.KeyWords.{KeyWords}
@@ -46,6 +47,9 @@ asPicked r = record { number = r .number; found = r .found; type = r .kind; valu
 
 abbrev pub asSeveral : SeveralWords → told.Several
 asSeveral r = record { number = r .number; count = r .count; found = r .found; type = r .kind; value = r .value; length = r .length }
+
+abbrev pub asEarly : EarlyWords → told.Early
+asEarly r = record { number = r .number; keys = r .keys; found = r .found; type = r .kind; value = r .value; length = r .length }
 
 abbrev pub asKey : KeyWords → told.Key
 asKey r = record { number = r .number; tag = r .tag; type = r .kind; place = r .place }

@@ -7,15 +7,15 @@ ghost use Rattle.wire.specs.Table.{kindWord, valueWord, lengthWord};
 ghost use Rattle.wire.specs.Varint.{encode};
 ghost use Rattle.wire.specs.Signed.{toUnsigned, toSigned};
 ghost use Rattle.message.specs.Payload.{spanOf};
-ghost use Rattle.capgauze.specs.Told.{putTold, varintTold, readTold, pickedTold, severalTold, measuredTold, keyTold, valueTold, skippedTold, stepTold, writtenTold, insertedTold};
+ghost use Rattle.capgauze.specs.Told.{putTold, varintTold, readTold, pickedTold, severalTold, earlyTold, measuredTold, keyTold, valueTold, skippedTold, stepTold, writtenTold, insertedTold};
 ghost use Rattle.capgauze.specs.Writers.{encodeMessage, prependMessage, encodedLen, insertRecord};
 ghost use Rattle.capgauze.specs.Fields.{decodeKey, keyAtFront, keyAtEnd, keyLen, decodeValue, skipField, stepEntry};
 ghost use Rattle.capgauze.specs.Varints.{decodeVarint, decodeVarintCapped};
 ghost use Rattle.capgauze.specs.Stores.{atFront, atEnd};
-ghost use Rattle.capgauze.specs.Messages.{readEntry, readPayload, pickEntry, severalEntry};
+ghost use Rattle.capgauze.specs.Messages.{readEntry, readPayload, pickEntry, severalEntry, earlyEntry};
 ghost use Rattle.sounding.specs.Told.{soundingTold};
 ghost use Rattle.sounding.specs.Words.{readSounding};
-ghost use Rattle.capgauze_c.specs.Words.{Lent, asNumber, asVarint, asRead, asPicked, asSeveral, asPart, asWritten, writingTold, insertionTold, asKey, asValue, asPlace, asStep, typedOf, keyStored, valueTyped, placeTyped, storedTold, outcomeTold, asSounding, levelsTold};
+ghost use Rattle.capgauze_c.specs.Words.{Lent, asNumber, asVarint, asRead, asPicked, asSeveral, asEarly, asPart, asWritten, writingTold, insertionTold, asKey, asValue, asPlace, asStep, typedOf, keyStored, valueTyped, placeTyped, storedTold, outcomeTold, asSounding, levelsTold};
 use capgauze::KeyRead;
 use capgauze::Measured;
 use capgauze::Picked;
@@ -26,6 +26,7 @@ use capgauze::Step;
 use capgauze::ValueRead;
 use capgauze::VarintRead;
 use sounding::Sounding;
+use wire::Early;
 use wire::Inserted;
 use wire::Read;
 use wire::Record;
@@ -68,6 +69,16 @@ pub struct PickWords {
 pub struct SeveralWords {
     pub number: u64,
     pub count: u64,
+    pub found: u64,
+    pub kind: u64,
+    pub value: u64,
+    pub length: u64,
+}
+
+#[repr(C)]
+pub struct EarlyWords {
+    pub number: u64,
+    pub keys: u64,
     pub found: u64,
     pub kind: u64,
     pub value: u64,
@@ -462,6 +473,41 @@ fn several_words(p: Several) -> SeveralWords
     }
 }
 
+fn early_words(p: Early) -> EarlyWords
+    ensures { λ r. ⌜ asEarly r ≡ earlyTold p ⌝ }
+{
+    match p {
+        Early::Found(f, n) => {
+            let v = f.value;
+            let w = value_words(v);
+            EarlyWords {
+                number: 0,
+                keys: n as u64,
+                found: 1,
+                kind: w.kind,
+                value: w.value,
+                length: w.length,
+            }
+        }
+        Early::Absent(n) => EarlyWords {
+            number: 0,
+            keys: n as u64,
+            found: 0,
+            kind: 0,
+            value: 0,
+            length: 0,
+        },
+        Early::Refused(r) => EarlyWords {
+            number: number_of(r),
+            keys: 0,
+            found: 0,
+            kind: 0,
+            value: 0,
+            length: 0,
+        },
+    }
+}
+
 fn sounding_words(a: Sounding) -> SoundingWords
     ensures { λ r. ⌜ asSounding r ≡ soundingTold a ⌝ }
 {
@@ -698,6 +744,14 @@ pub extern "C" fn capgauze_pick_at(s: &[u8], tag: u32, number: usize) -> Several
     ensures { λ r. ⌜ asSeveral r ≡ severalTold (severalEntry (now (s .entry)) tag number) ⌝ }
 {
     several_words(capgauze::pick_at(s, tag, number))
+}
+
+// The only field of a tag before the first key above it, and the number of keys read.
+#[no_mangle]
+pub extern "C" fn capgauze_pick_early(s: &[u8], tag: u32) -> EarlyWords
+    ensures { λ r. ⌜ asEarly r ≡ earlyTold (earlyEntry (now (s .entry)) tag) ⌝ }
+{
+    early_words(capgauze::pick_early(s, tag))
 }
 
 // ---- writing

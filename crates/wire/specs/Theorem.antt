@@ -43,7 +43,7 @@ module _ (s : List ℕ) (e m p last : ℕ) where
 pub refused-fields : {A : Type 0} (r : Refusal) (p : ℕ) (fs : List Field) → Refused r p ≡ Fields fs → A
 refused-fields r p fs e = let z : _≡_ {A = ℕ} 0 1 = cc in absurd (omega arith)
 
-more-fields : (f : Field) (r : Message) (fs : List Field) → more f r ≡ Fields fs → (gs : List Field) × (r ≡ Fields gs) × (fs ≡ f ∷ gs)
+pub more-fields : (f : Field) (r : Message) (fs : List Field) → more f r ≡ Fields fs → (gs : List Field) × (r ≡ Fields gs) × (fs ≡ f ∷ gs)
 more-fields f (Fields gs) fs e = (gs, refl, cc)
 more-fields f (Refused r p) fs e = refused-fields r p fs e
 
