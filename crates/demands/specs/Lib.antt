@@ -5,3 +5,4 @@ pub mod Inserting
 pub mod Refusals
 pub mod Cases
 pub mod Determined
+pub mod Early
