@@ -67,6 +67,7 @@ typedef struct { uint64_t number, place, count; } capgauze_read;
 typedef struct { uint64_t number, start, length; } capgauze_written;
 typedef struct { uint64_t number, found, type, value, length; } capgauze_picked;
 typedef struct { uint64_t number, count, found, type, value, length; } capgauze_several;
+typedef struct { uint64_t number, keys, found, type, value, length; } capgauze_early;
 typedef struct { uint64_t start, length; } capgauze_part;
 typedef struct { uint64_t number, station, launch, levels; } capgauze_sounding;
 
@@ -133,6 +134,11 @@ capgauze_picked capgauze_pick(const uint8_t *s, size_t s_len, uint32_t tag);
 /* Reads the whole message and answers how many fields the tag has, and the one at a number, counted from 0, as above.
  * Absent: found is 0, and count still says how many. Refused: the number alone. */
 capgauze_several capgauze_pick_at(const uint8_t *s, size_t s_len, uint32_t tag, size_t number);
+
+/* The only field of the tag before the first key above it, as pick answers it on the bytes before that key; neither that
+ * key's value nor what follows is read. keys is the number of keys read: one for each field up to the tag, and one for
+ * the key above, if there is one. Refused: the number alone; Repeated after the refusals of what was read. */
+capgauze_early capgauze_pick_early(const uint8_t *s, size_t s_len, uint32_t tag);
 
 /* ---- Soundings ---- */
 

@@ -121,7 +121,15 @@ static void messages(void) {
     SAME(capgauze_pick_at(S, 3, 1), 0, 2, 1, 2, 1, 4);
     SAME(capgauze_pick_at(S, 3, 2), 0, 2, 0, 0, 0, 0);
     SAME(capgauze_pick_at(S, 2, 0), 0, 0, 0, 0, 0, 0);
+    SAME(capgauze_pick_early(S, 1), 0, 2, 1, 0, UINT64_MAX, 0);
+    SAME(capgauze_pick_early(S, 2), 0, 2, 0, 0, 0, 0);
+    SAME(capgauze_pick_early(S, 3), 11, 0, 0, 0, 0, 0);
+    SAME(capgauze_pick_early(S, 4), 0, 3, 0, 0, 0, 0);
+    use("000005");
+    SAME(capgauze_pick(S, 0), 1, 0, 0, 0, 0);
+    SAME(capgauze_pick_early(S, 0), 0, 2, 1, 0, 0, 0);
     use("0405000700");
+    SAME(capgauze_pick_early(S, 1), 1, 0, 0, 0, 0, 0);
     SAME(capgauze_pick(S, 1), 1, 0, 0, 0, 0);
     SAME(capgauze_pick_at(S, 1, 0), 1, 0, 0, 0, 0, 0);
     use("0000050504000100");
@@ -193,6 +201,8 @@ static void soundings(void) {
     SAME(capgauze_read_sounding(S, TABLE), 13, 0, 0, 0);
     use("0500");
     SAME(capgauze_read_sounding(S, TABLE), 9, 0, 0, 0);
+    use("040100010400");
+    SAME(capgauze_read_sounding(S, TABLE), 11, 0, 0, 0);
     use("040104000500");
     SAME(capgauze_read_sounding(S, TABLE), 13, 0, 0, 0);
     TABLE_IS(77, 77, 77, 77);

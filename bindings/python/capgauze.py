@@ -40,6 +40,7 @@ Read = namedtuple("Read", "place count")
 Written = namedtuple("Written", "start length")
 Picked = namedtuple("Picked", "type value length")
 Several = namedtuple("Several", "count picked")
+Early = namedtuple("Early", "keys picked")
 Sounding = namedtuple("Sounding", "station launch levels")
 Level = namedtuple("Level", "pressure_pa temperature_c dewpoint_depression_c")
 
@@ -92,6 +93,7 @@ _ENTRIES = {
     "insert": (_NUMBER, *_BYTES, *_TABLE, _SIZE, *_RECORD),
     "pick": (_answer("number found type value length"), *_BYTES, _U32),
     "pick_at": (_answer("number count found type value length"), *_BYTES, _U32, _SIZE),
+    "pick_early": (_answer("number keys found type value length"), *_BYTES, _U32),
     "read_sounding": (_answer("number station launch levels"), *_BYTES, *_TABLE),
 }
 
@@ -263,6 +265,16 @@ def pick_at(s, tag, number):
     """
     count, found, *picked = _accepted("pick_at", *lent(s), tag, number)
     return Several(count, Picked(*picked) if found else None)
+
+
+def pick_early(s, tag):
+    """Reads up to the first key above the tag: how many keys were read, and the only field of the tag, or None.
+
+    >>> pick_early(bytes.fromhex("0405040105"), 1)
+    Early(keys=2, picked=Picked(type=0, value=5, length=0))
+    """
+    keys, found, *picked = _accepted("pick_early", *lent(s), tag)
+    return Early(keys, Picked(*picked) if found else None)
 
 
 # ---- Soundings ----

@@ -109,6 +109,14 @@ class Messages(unittest.TestCase):
         self.assertEqual(capgauze.pick_at(MESSAGE, 3, 2), (2, None))
         self.assertEqual(capgauze.pick_at(MESSAGE, 2, 0), (0, None))
 
+    def test_pick_early(self):
+        self.assertEqual(capgauze.pick_early(MESSAGE, 1), (2, (0, 2**64 - 1, 0)))
+        self.assertEqual(capgauze.pick_early(MESSAGE, 2), (2, None))
+        self.assertEqual(capgauze.pick_early(MESSAGE, 4), (3, None))
+        self.assertEqual(capgauze.pick_early(bytes.fromhex("000005"), 0), (2, (0, 0, 0)))
+        with self.assertRaises(capgauze.Refused):
+            capgauze.pick_early(MESSAGE, 3)
+
     def test_both_ways(self):
         table = array("Q", (word for record in RECORDS for word in record))
         for write, start in ((capgauze.encode_message, 0), (capgauze.prepend_message, 3)):

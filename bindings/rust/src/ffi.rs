@@ -18,6 +18,7 @@ answers! {
     Written { number, start, length }
     Picked { number, found, kind, value, length }
     Several { number, count, found, kind, value, length }
+    Early { number, keys, found, kind, value, length }
     Part { start, length }
     Sounding { number, station, launch, levels }
 }
@@ -51,5 +52,6 @@ extern "C" {
     pub fn capgauze_insert(source: *const u8, len: usize, table: *mut u64, words: usize, count: usize, tag: u64, kind: u64, value: u64, length: u64) -> Number;
     pub fn capgauze_pick(s: *const u8, len: usize, tag: u32) -> Picked;
     pub fn capgauze_pick_at(s: *const u8, len: usize, tag: u32, number: usize) -> Several;
+    pub fn capgauze_pick_early(s: *const u8, len: usize, tag: u32) -> Early;
     pub fn capgauze_read_sounding(s: *const u8, len: usize, levels: *mut u64, words: usize) -> Sounding;
 }

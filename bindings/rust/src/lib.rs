@@ -392,6 +392,21 @@ pub fn pick_at(s: &[u8], tag: u32, number: usize) -> Result<(usize, Option<Value
     Ok((answer.count as usize, (answer.found != 0).then(|| value(answer.kind, answer.value, answer.length))))
 }
 
+/// Reads up to the first key above the tag, whose value it leaves: how many keys were read, and the only value of the tag before
+/// it, or `None`. Refusals: as [`pick`], as far as it read.
+///
+/// ```
+/// # use capgauze::{pick, pick_early, Refusal, Value};
+/// let cut = [0x04, 0x07, 0x04]; // tag 1 is 7, and tag 2 has lost its value
+/// assert_eq!(pick_early(&cut, 1), Ok((2, Some(Value::Varint(7)))));
+/// assert_eq!(pick(&cut, 1), Err(Refusal::Truncated));
+/// ```
+pub fn pick_early(s: &[u8], tag: u32) -> Result<(usize, Option<Value>), Refusal> {
+    let answer = unsafe { ffi::capgauze_pick_early(s.as_ptr(), s.len(), tag) };
+    accepted(answer.number)?;
+    Ok((answer.keys as usize, (answer.found != 0).then(|| value(answer.kind, answer.value, answer.length))))
+}
+
 // ---- Soundings ----
 
 /// Reads a whole sounding; its levels go into the table, five words each ([`Level::at`] puts names on them). Refusals: as a

@@ -28,6 +28,7 @@ fn empty_slices() {
     }
     assert_eq!(pick(&[], 0), Ok(None));
     assert_eq!(pick_at(&[], 0, 0), Ok((0, None)));
+    assert_eq!(pick_early(&[], 0), Ok((0, None)));
     assert_eq!(fields(&[]).next(), None);
     assert_eq!(encode_varint(0, &mut []), Err(Refusal::NoRoom));
     assert_eq!(prepend_varint(0, &mut []), Err(Refusal::NoRoom));
@@ -159,6 +160,7 @@ fn the_limit() {
     assert_eq!(read_message(&message, 0, 0, &mut table), Err(refused));
     assert_eq!(decode_varint(&message, 5), Err(RefusedAt { refusal, place: 5 }));
     assert_eq!(pick(&message, 0), Err(refusal));
+    assert_eq!(pick_early(&message, 0), Err(refusal));
     let refused = RefusedWrite { refusal, index: 0, length: 0 };
     assert_eq!(encode_message(&message, &table, 0, &mut buf), Err(refused));
     assert_eq!(

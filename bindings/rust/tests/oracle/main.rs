@@ -23,6 +23,21 @@ const FILL: u64 = 0xA5A5_A5A5_A5A5_A5A5;
 const TYPES: [WireType; 4] =
     [WireType::Varint, WireType::LengthDelimited, WireType::ThirtyTwoBit, WireType::SixtyFourBit];
 
+/// Where a lookup of the tag may stop: the keys up to there, and the place of the first key above it or the end.
+fn stop(s: &[u8], tag: u32) -> Result<(usize, usize), Refusal> {
+    let (mut at, mut last, mut keys) = (0, 0, 0);
+    while at < s.len() {
+        keys += 1;
+        let (next_tag, kind, value) = Blob::key(s, at, s.len(), last).map_err(named)?;
+        if next_tag > tag {
+            break;
+        }
+        at = Blob::value(s, value, s.len(), kind).map_err(named)?.1;
+        last = next_tag;
+    }
+    Ok((keys, at))
+}
+
 #[test]
 fn ten_million() {
     run(10_000_000);
@@ -268,6 +283,11 @@ impl Against {
             _ => Err(Refusal::Repeated),
         });
         same!(self, pick(s, tag), only, s, tag);
+        let early = stop(s, tag).and_then(|(keys, place)| {
+            let values = Blob::index(&s[..place], tag).map_err(named)?;
+            if values.len() > 1 { Err(Refusal::Repeated) } else { Ok((keys, at(&values, 0))) }
+        });
+        same!(self, pick_early(s, tag), early, s, tag);
         let last = index.as_ref().map_or(0, Vec::len);
         for number in [0, last.saturating_sub(1), last] {
             let theirs = index.clone().map(|values| (values.len(), at(&values, number)));
