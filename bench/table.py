@@ -2,7 +2,7 @@
 """table.py LOADS TIMES COUNTS: one table of what the driver and the counter wrote; either of the last two may be empty."""
 import sys
 
-KINDS = ["read", "write", "prepend", "measure", "floor"]
+KINDS = ["read", "write", "prepend", "measure", "pick", "floor"]
 OURS, SAME = "OURS", "rust-same"  # the ratio that the goals are about
 
 

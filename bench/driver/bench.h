@@ -25,6 +25,7 @@ typedef struct Load {
     size_t fields;     /* of the message */
     size_t all_fields; /* with those of its payloads, where deep */
     const uint64_t *records;
+    uint64_t launch; /* of a sounding: what stands under tag 2; else 0 */
 } Load;
 
 /* What a job may use, made before a clock runs. */
@@ -39,7 +40,7 @@ typedef struct Work {
     void *own;            /* what prepare returned */
 } Work;
 
-typedef enum { READ, WRITE, PREPEND, MEASURE, FLOOR } Kind;
+typedef enum { READ, WRITE, PREPEND, MEASURE, PICK, FLOOR } Kind;
 
 typedef struct Job {
     Kind kind;
@@ -48,7 +49,7 @@ typedef struct Job {
     int keeps;        /* nothing is touched that the paper says stays: a refused read's table, what is behind a buffer */
     int pb;           /* works on the protobuf bytes */
     void *(*prepare)(const Load *, Work *);
-    /* A reader: the number of fields, or REFUSED. A writer or a measurer: the length. */
+    /* A reader: the number of fields, or REFUSED. A writer or a measurer: the length. A lookup: the launch. */
     uint64_t (*run)(const Load *, Work *);
 } Job;
 

@@ -98,13 +98,14 @@ static uint64_t mixed(void) {
 }
 static uint32_t rise(const Msg *m) { return m->n == 0 ? 1 : below(16) == 0; } /* mostly repeated tags */
 
-static Msg sounding(void) {
+#define LAUNCH 1763164800
+static Msg sounding_of(int levels) {
     Msg m = {0};
     varint(&m, 1, 11035);
-    varint(&m, 1, 1763164800);
-    for (int i = 0; i < 120; i++) {
+    varint(&m, 1, LAUNCH);
+    for (int i = 0; i < levels; i++) {
         Msg level = {0};
-        varint(&level, 1, 101325 - 830 * i - below(100));
+        varint(&level, 1, 101325 - 830 * (i % 120) - below(100));
         varint(&level, 1, below(20) == 0 ? UINT64_MAX : below(1200));
         varint(&level, 1, below(8) == 0 ? UINT64_MAX : below(600));
         m.inner += level.n;
@@ -112,6 +113,8 @@ static Msg sounding(void) {
     }
     return m;
 }
+static Msg sounding(void) { return sounding_of(120); }
+static Msg long_sounding(void) { return sounding_of(4000); }
 static Msg one_byte_varints(void) {
     Msg m = {0};
     while (m.bil.n + 12 <= MESSAGE_LIMIT) varint(&m, rise(&m), of_len(1));
@@ -158,7 +161,7 @@ static Load load(const char *name, uint64_t seed, Msg make(void), int good, int 
     state = seed;
     Msg m = make();
     Load l = {.name = name, .good = good, .deep = deep, .fields = m.n, .all_fields = m.n + (deep ? m.inner : 0),
-              .records = m.rec, .len = m.bil.n - !good, .pb_len = m.pb.n - !good};
+              .launch = m.inner && !deep ? LAUNCH : 0, .records = m.rec, .len = m.bil.n - !good, .pb_len = m.pb.n - !good};
     l.bytes = memcpy(calloc(1, l.len + SLACK), m.bil.p, l.len);
     l.pb = memcpy(calloc(1, l.pb_len + SLACK), m.pb.p, l.pb_len);
     return l;
@@ -169,6 +172,7 @@ size_t make_loads(Load *out) {
         load("S", 1, sounding, 1, 0),         load("SN", 1, sounding, 1, 1),     load("V1", 2, one_byte_varints, 1, 0),
         load("VM", 3, mixed_varints, 1, 0),   load("P", 4, payloads, 1, 0),      load("F", 5, fixed_values, 1, 0),
         load("X", 6, all_types, 1, 0),        load("T", 7, tiny, 1, 0),          load("B", 3, mixed_varints, 0, 0),
+        load("SL", 1, long_sounding, 1, 0),
     };
     memcpy(out, all, sizeof all);
     return sizeof all / sizeof *all;

@@ -11,7 +11,7 @@
 #define MAX_JOBS 64
 #define MAX_ROUNDS 400
 
-static const char *KIND[] = {"read", "write", "prepend", "measure", "floor"};
+static const char *KIND[] = {"read", "write", "prepend", "measure", "pick", "floor"};
 static Job jobs[MAX_JOBS];
 static size_t job_count;
 static Load loads[MAX_LOADS];
@@ -63,6 +63,8 @@ static void check(size_t a, size_t b) {
     uint64_t got = j->run(l, &works[a][b]);
     if (got == NOT_DONE) return;
     active[a][b] = 1;
+    if (j->kind == PICK && got != l->launch) fail(j, l, "wrong launch", got);
+    if (j->kind == PICK) return;
     if (j->kind == READ) check_read(j, l, &works[a][b], got);
     else if (j->kind != FLOOR) check_written(j, l, &works[a][b], got);
 }

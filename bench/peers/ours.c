@@ -19,7 +19,17 @@ static uint64_t job_prepend(const Load *l, Work *w) {
     return written(w, capgauze_prepend_message(RECORDS, w->out, w->out_len));
 }
 static uint64_t job_measure(const Load *l, Work *w) { return written(w, capgauze_encoded_len_message(RECORDS)); }
+static uint64_t job_pick(const Load *l, Work *w) {
+    (void)w;
+    return l->launch ? capgauze_pick(l->bytes, l->len, 2).value : NOT_DONE;
+}
+static uint64_t job_pick_early(const Load *l, Work *w) {
+    (void)w;
+    return l->launch ? capgauze_pick_early(l->bytes, l->len, 2).value : NOT_DONE;
+}
 REGISTER(1, .kind = READ, .name = "OURS", .fills = 1, .keeps = 1, .run = job_read)
 REGISTER(2, .kind = WRITE, .name = "OURS", .keeps = 1, .run = job_write)
 REGISTER(3, .kind = PREPEND, .name = "OURS", .keeps = 1, .run = job_prepend)
 REGISTER(4, .kind = MEASURE, .name = "OURS", .run = job_measure)
+REGISTER(5, .kind = PICK, .name = "OURS", .run = job_pick)
+REGISTER(6, .kind = PICK, .name = "OURS-early", .run = job_pick_early)
