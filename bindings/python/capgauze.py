@@ -137,11 +137,14 @@ def call(name, *arguments):
     return tuple(getattr(answer, field) for field, _ in answer._fields_)
 
 
+_NUMBER_ALONE = {"pick", "pick_at", "pick_early", "read_sounding"}  # what their refusals answer
+
+
 def _accepted(name, *arguments):
     """The answer's words behind the number, or Refused with what they are called."""
     number, *words = call(name, *arguments)
     if number:
-        names = [field for field, _ in _ENTRIES[name][0]._fields_[1:]]
+        names = [] if name in _NUMBER_ALONE else [field for field, _ in _ENTRIES[name][0]._fields_[1:]]
         raise Refused(number, dict(zip(names, words)))
     return words
 
