@@ -151,6 +151,7 @@ module _ (t : ℕ) (s : List ℕ) where
         where
           small : f .tag ≤ t
           small = ltb-false t (f .tag) (sym (field-tag t s (length s) p last f q e) ∙ low)
+
           next : Meets k t s p q (f .tag) → Meets (suc k) t s m p last
           next (whole fs g u h) = whole (f ∷ fs) (rw (x, z, g)) (small, u) (turn-field s (length s) m p last k f q (ltb-true p (length s) x) e ∙ ap (more f) h)
           next (refused r i g h) = refused r i (rw (x, z, g)) (turn-field s (length s) m p last k f q (ltb-true p (length s) x) e ∙ ap (more f) h)
