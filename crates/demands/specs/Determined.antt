@@ -1,7 +1,120 @@
--- Any two outcomes that a contract of the face allows are equal: the answer, and the contents of all that was
--- lent. Gathered here, a line for each entry; each is proved beside its contract, by the one general law of wire/specs/Only.
-pub use Rattle.capgauze.proofs.Only.{encoded-len-varint-one, encode-varint-one, prepend-varint-one, decode-varint-one, decode-varint-capped-one}
-pub use Rattle.capgauze.proofs.Only.{i64-to-unsigned-one, u64-to-signed-one, wire-type-of-one, wire-number-one}
-pub use Rattle.capgauze.proofs.Only.{decode-key-one, encode-key-one, prepend-key-one, key-len-one, decode-value-one, skip-field-one, step-at-one, more-at-one}
-pub use Rattle.capgauze.proofs.Only.{read-message-one, payload-of-one, read-payload-one, pick-one}
-pub use Rattle.capgauze.proofs.Only.{encode-message-one, prepend-message-one, encoded-len-message-one, insert-one}
+-- Any two outcomes that a contract allows are equal: the answer, and the contents of all that was lent. Gathered here, a line for each public
+-- function of each crate; each is proved beside its contract, in `proofs/Only.antt` of its crate, by the one general law of wire/specs/Only. The face's have
+-- their own names, those of the other crates their crate's name in front. The programs `dump`, `soundings` and `replay` have no public function but `main`.
+
+-- bytes put at a place
+pub use Rattle.place.proofs.Only.{put-part-one as place-put-part-one}
+pub use Rattle.place.proofs.Only.{put-fixed-one as place-put-fixed-one}
+-- varints
+pub use Rattle.varint.proofs.Only.{encoded-len-varint-one as varint-encoded-len-varint-one}
+pub use Rattle.varint.proofs.Only.{decode-varint-one as varint-decode-varint-one}
+pub use Rattle.varint.proofs.Only.{decode-varint-capped-one as varint-decode-varint-capped-one}
+pub use Rattle.varint.proofs.Only.{put-varint-one as varint-put-varint-one}
+pub use Rattle.varint.proofs.Only.{prepend-varint-one as varint-prepend-varint-one}
+pub use Rattle.varint.proofs.Only.{i64-to-unsigned-one as varint-i64-to-unsigned-one}
+pub use Rattle.varint.proofs.Only.{u64-to-signed-one as varint-u64-to-signed-one}
+-- one field
+pub use Rattle.field.proofs.Only.{wire-type-of-one as field-wire-type-of-one}
+pub use Rattle.field.proofs.Only.{wire-number-one as field-wire-number-one}
+pub use Rattle.field.proofs.Only.{key-len-one as field-key-len-one}
+pub use Rattle.field.proofs.Only.{put-key-one as field-put-key-one}
+pub use Rattle.field.proofs.Only.{prepend-key-one as field-prepend-key-one}
+pub use Rattle.field.proofs.Only.{decode-key-one as field-decode-key-one}
+pub use Rattle.field.proofs.Only.{four-bytes-one as field-four-bytes-one}
+pub use Rattle.field.proofs.Only.{decode-value-one as field-decode-value-one}
+pub use Rattle.field.proofs.Only.{decode-field-one as field-decode-field-one}
+pub use Rattle.field.proofs.Only.{step-from-one as field-step-from-one}
+pub use Rattle.field.proofs.Only.{skip-field-one as field-skip-field-one}
+-- whole messages
+pub use Rattle.message.proofs.Only.{decide-one as message-decide-one}
+pub use Rattle.message.proofs.Only.{find-tag-one as message-find-tag-one}
+pub use Rattle.message.proofs.Only.{read-into-one as message-read-into-one}
+pub use Rattle.message.proofs.Only.{payload-span-one as message-payload-span-one}
+-- one record
+pub use Rattle.record.proofs.Only.{is-good-one as record-is-good-one}
+pub use Rattle.record.proofs.Only.{weigh-record-one as record-weigh-record-one}
+-- tables written
+pub use Rattle.writer.proofs.Only.{weigh-one as writer-weigh-one}
+pub use Rattle.writer.proofs.Only.{measure-one as writer-measure-one}
+pub use Rattle.writer.proofs.Only.{write-front-one as writer-write-front-one}
+pub use Rattle.writer.proofs.Only.{write-back-one as writer-write-back-one}
+-- a record put among others
+pub use Rattle.insertion.proofs.Only.{insert-record-one as insertion-insert-record-one}
+-- a tag looked for from the front
+pub use Rattle.early.proofs.Only.{find-early-one as early-find-early-one}
+-- the face
+pub use Rattle.capgauze.proofs.Only.{encoded-len-varint-one}
+pub use Rattle.capgauze.proofs.Only.{encode-varint-one}
+pub use Rattle.capgauze.proofs.Only.{prepend-varint-one}
+pub use Rattle.capgauze.proofs.Only.{decode-varint-one}
+pub use Rattle.capgauze.proofs.Only.{decode-varint-capped-one}
+pub use Rattle.capgauze.proofs.Only.{i64-to-unsigned-one}
+pub use Rattle.capgauze.proofs.Only.{u64-to-signed-one}
+pub use Rattle.capgauze.proofs.Only.{wire-type-of-one}
+pub use Rattle.capgauze.proofs.Only.{wire-number-one}
+pub use Rattle.capgauze.proofs.Only.{decode-key-one}
+pub use Rattle.capgauze.proofs.Only.{encode-key-one}
+pub use Rattle.capgauze.proofs.Only.{prepend-key-one}
+pub use Rattle.capgauze.proofs.Only.{key-len-one}
+pub use Rattle.capgauze.proofs.Only.{decode-value-one}
+pub use Rattle.capgauze.proofs.Only.{skip-field-one}
+pub use Rattle.capgauze.proofs.Only.{step-at-one}
+pub use Rattle.capgauze.proofs.Only.{more-at-one}
+pub use Rattle.capgauze.proofs.Only.{read-message-one}
+pub use Rattle.capgauze.proofs.Only.{payload-of-one}
+pub use Rattle.capgauze.proofs.Only.{read-payload-one}
+pub use Rattle.capgauze.proofs.Only.{pick-at-one}
+pub use Rattle.capgauze.proofs.Only.{pick-one}
+pub use Rattle.capgauze.proofs.Only.{pick-early-one}
+pub use Rattle.capgauze.proofs.Only.{encode-message-one}
+pub use Rattle.capgauze.proofs.Only.{prepend-message-one}
+pub use Rattle.capgauze.proofs.Only.{encoded-len-message-one}
+pub use Rattle.capgauze.proofs.Only.{insert-one}
+-- the reader that holds a message: over the predicates that its contracts cite
+pub use Rattle.reader.proofs.Only.{make-one as reader-make-one}
+pub use Rattle.reader.proofs.Only.{has-more-one as reader-has-more-one}
+pub use Rattle.reader.proofs.Only.{take-step-one as reader-take-step-one}
+pub use Rattle.reader.proofs.Only.{step-through-one as reader-step-through-one}
+-- a message read and written back
+pub use Rattle.copy.proofs.Only.{copy-message-one as copy-copy-message-one}
+-- digits
+pub use Rattle.hex.proofs.Only.{digit-of-one as hex-digit-of-one}
+pub use Rattle.hex.proofs.Only.{frame-of-one as hex-frame-of-one}
+pub use Rattle.hex.proofs.Only.{put-hex-one as hex-put-hex-one}
+pub use Rattle.hex.proofs.Only.{put-decimal-one as hex-put-decimal-one}
+pub use Rattle.hex.proofs.Only.{put-hex-bytes-one as hex-put-hex-bytes-one}
+-- lines
+pub use Rattle.lines.proofs.Only.{more-one as lines-more-one}
+pub use Rattle.lines.proofs.Only.{take-line-one as lines-take-line-one}
+-- frames as text
+pub use Rattle.frames.proofs.Only.{put-frame-one as frames-put-frame-one}
+-- soundings
+pub use Rattle.sounding.proofs.Only.{read-sounding-one as sounding-read-sounding-one}
+-- soundings as text
+pub use Rattle.columns.proofs.Only.{put-sounding-one as columns-put-sounding-one}
+-- the face for C
+pub use Rattle.capgauze_c.proofs.Only.{encoded-len-varint-one as c-encoded-len-varint-one}
+pub use Rattle.capgauze_c.proofs.Only.{i64-to-unsigned-one as c-i64-to-unsigned-one}
+pub use Rattle.capgauze_c.proofs.Only.{u64-to-signed-one as c-u64-to-signed-one}
+pub use Rattle.capgauze_c.proofs.Only.{decode-varint-one as c-decode-varint-one}
+pub use Rattle.capgauze_c.proofs.Only.{decode-varint-capped-one as c-decode-varint-capped-one}
+pub use Rattle.capgauze_c.proofs.Only.{encode-varint-one as c-encode-varint-one}
+pub use Rattle.capgauze_c.proofs.Only.{prepend-varint-one as c-prepend-varint-one}
+pub use Rattle.capgauze_c.proofs.Only.{decode-key-one as c-decode-key-one}
+pub use Rattle.capgauze_c.proofs.Only.{encode-key-one as c-encode-key-one}
+pub use Rattle.capgauze_c.proofs.Only.{prepend-key-one as c-prepend-key-one}
+pub use Rattle.capgauze_c.proofs.Only.{key-len-one as c-key-len-one}
+pub use Rattle.capgauze_c.proofs.Only.{decode-value-one as c-decode-value-one}
+pub use Rattle.capgauze_c.proofs.Only.{skip-field-one as c-skip-field-one}
+pub use Rattle.capgauze_c.proofs.Only.{step-at-one as c-step-at-one}
+pub use Rattle.capgauze_c.proofs.Only.{read-message-one as c-read-message-one}
+pub use Rattle.capgauze_c.proofs.Only.{payload-of-one as c-payload-of-one}
+pub use Rattle.capgauze_c.proofs.Only.{read-payload-one as c-read-payload-one}
+pub use Rattle.capgauze_c.proofs.Only.{pick-one as c-pick-one}
+pub use Rattle.capgauze_c.proofs.Only.{pick-at-one as c-pick-at-one}
+pub use Rattle.capgauze_c.proofs.Only.{pick-early-one as c-pick-early-one}
+pub use Rattle.capgauze_c.proofs.Only.{encode-message-one as c-encode-message-one}
+pub use Rattle.capgauze_c.proofs.Only.{prepend-message-one as c-prepend-message-one}
+pub use Rattle.capgauze_c.proofs.Only.{encoded-len-message-one as c-encoded-len-message-one}
+pub use Rattle.capgauze_c.proofs.Only.{insert-one as c-insert-one}
+pub use Rattle.capgauze_c.proofs.Only.{read-sounding-one as c-read-sounding-one}
