@@ -3,6 +3,10 @@ pub mod Reading
 pub mod Writing
 pub mod Inserting
 pub mod Refusals
+pub mod Order
+pub mod Rules
+pub mod RulesLaws
+pub mod Verdicts
 pub mod Cases
 pub mod Determined
 pub mod Early
