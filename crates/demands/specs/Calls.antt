@@ -1,14 +1,19 @@
--- A call of `read_message` and one of its outcomes: what is lent, what is answered, what is left. The theorems speak of every outcome that
--- its contract allows.
+-- What the theorems speak of: every outcome that a contract allows. And a call of `read_message` with one of its outcomes: what is lent, what is answered,
+-- what is left.
 use Prim.Native.Nat.{ℕ}
 use mathlib.Core.List.{List}
 use contract.Lifetimes.{Lfts}
-use borrow.Fn.Kinds.{Dens, resT, endedOf}
+use borrow.Fn.Kinds.{PK, RK, Out, Dens, resT, endedOf}
 use denote.Triple.Clauses.{AtExit}
 use denote.Ref.{now}
 use Rattle.wire.specs.declared.Read.{Read}
 use Rattle.capgauze.proofs.read_message.Kinds as kinds
 use Rattle.capgauze.proofs.read_message.Reads as reads
+
+-- of a function with l lifetimes, parameters ps and result r, whose contract is post: what is said of the arguments, the result and what is left is so of every
+-- outcome
+abbrev pub Every : (l : ℕ) (ps : List (PK l)) (r : RK l) → Out l ps r → ((κs : Lfts l) → Dens κs ps → resT r κs .Denot → AtExit (endedOf l ps r) κs → Type 0) → Type 0
+Every l ps r post said = (κs : Lfts l) (a : Dens κs ps) (x : resT r κs .Denot) (s : AtExit (endedOf l ps r) κs) → post κs a x s → said κs a x s
 
 pub record Call : Type 0 where
   pub lifetimes : Lfts 2

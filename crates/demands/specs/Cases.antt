@@ -1,24 +1,47 @@
--- The paper's cases of messages, over every outcome that the contract of `read_message` allows: number, place and count.
-use Prim.Native.Nat.{ℕ, _≤_}
+-- The paper's cases, over every outcome that the contracts of the entries allow: varints put, measured and read, messages read, fields skipped.
+use Prim.Native.Nat.{ℕ, _-_, _≤_}
 use mathlib.Core.Path.{_≡_, refl, ap, _∙_}
 use mathlib.Core.Bool.{Bool, true, false}
-use mathlib.Core.List.{List, [], _∷_}
+use mathlib.Core.List.{List, [], _∷_, _++_}
 use native.Mathlib.Omega.{arith}
-use borrow.Author.Tests.{leb-true}
+use borrow.Author.Tests.{leb-true, le-leb}
 use lib.Dec.{leb}
-use lib.ListN.{length}
+use lib.ListN.{length, take, drop}
+use denote.Ref.{now}
 use Rattle.wire.specs.Choose.{choose}
 use Rattle.wire.specs.Limits.{messageLimit}
 use Rattle.wire.specs.Numbers.{numberOf}
-use Rattle.wire.specs.Reading.{Message, Fields, readMessage}
+use Rattle.wire.specs.Varint.{encode}
+use Rattle.wire.specs.Reading.{varintAt, Message, Fields, readMessage}
 use Rattle.wire.specs.Reading as reading
+use Rattle.wire.specs.Skipping.{skipAt}
+use Rattle.wire.specs.declared.WireType.{WireType}
+use Rattle.wire.specs.declared.VarintFound.{VarintFound}
+use Rattle.wire.specs.declared.VarintFound.the-variants as varintFound
+use Rattle.wire.specs.declared.Reached.{Reached}
 use Rattle.wire.specs.Table.{room}
 use Rattle.wire.specs.Cases.{Case, Encodes, Varint, Reads, Skips, Right, All, cases}
 use Rattle.wire.specs.Cases as paper
 use Rattle.message.specs.Into.{Outcome, readInto, into-refused, into-fits}
-use Rattle.capgauze.specs.Told.{Message as Answer, readTold}
-use Rattle.capgauze.specs.Messages.{readEntry, entry-open}
-use Rattle.demands.specs.Calls.{Call, message, start, end, table, answer}
+use Rattle.capgauze.specs.Gate.{gated, through-open, gated-open}
+use Rattle.capgauze.specs.Varints.{varintRead, decodeVarint}
+use Rattle.capgauze.specs.Stores.{Stored, roomFor, atFront, atEnd}
+use Rattle.capgauze.specs.Fields.{skipAnswer, skipField}
+use Rattle.capgauze.specs.Told.{Message as Answer, putTold, varintTold, skippedTold, readTold}
+use Rattle.capgauze.specs.Messages.{readEntry}
+use Rattle.capgauze.specs.declared.Gated.the-variants.{Open}
+use Rattle.capgauze.specs.declared.Put.the-variants.{Done}
+use Rattle.capgauze.proofs.encode_varint.Kinds as encode-varint
+use Rattle.capgauze.proofs.encode_varint.Reads as encode-varint-reads
+use Rattle.capgauze.proofs.prepend_varint.Kinds as prepend-varint
+use Rattle.capgauze.proofs.prepend_varint.Reads as prepend-varint-reads
+use Rattle.capgauze.proofs.encoded_len_varint.Kinds as encoded-len-varint
+use Rattle.capgauze.proofs.encoded_len_varint.Reads as encoded-len-varint-reads
+use Rattle.capgauze.proofs.decode_varint.Kinds as decode-varint
+use Rattle.capgauze.proofs.decode_varint.Reads as decode-varint-reads
+use Rattle.capgauze.proofs.skip_field.Kinds as skip-field
+use Rattle.capgauze.proofs.skip_field.Reads as skip-field-reads
+use Rattle.demands.specs.Calls.{Every, Call, message, start, end, table, answer}
 
 -- what is told of a message that is read up to e
 abbrev pub told : ℕ → Message → Answer
@@ -29,12 +52,30 @@ abbrev pub needed : Message → ℕ
 needed (Fields fs) = length fs
 needed (reading.Refused r p) = 0
 
+-- a number's bytes: at the front of a buffer that has room for them, and at its end, with all other bytes as they were; and how many they are
+pub record Encoded (v : ℕ) (bs : List ℕ) : Type 0 where
+  pub at-front : Every 1 encode-varint.ps encode-varint.r encode-varint-reads.Post
+      (λ κs a x s. a .0 ≡ v → length bs ≤ length (now (a .1 .0)) → (putTold x ≡ record { number = 0; value = length bs }) × (now (s .1 .0) ≡ bs ++ drop (length bs) (now (a .1 .0))))
+  pub at-end : Every 1 prepend-varint.ps prepend-varint.r prepend-varint-reads.Post
+      (λ κs a x s. a .0 ≡ v → length bs ≤ length (now (a .1 .0)) → (putTold x ≡ record { number = 0; value = length bs }) × (now (s .1 .0) ≡ take (length (now (a .1 .0)) - length bs) (now (a .1 .0)) ++ bs))
+  pub measured : Every 0 encoded-len-varint.ps encoded-len-varint.r encoded-len-varint-reads.Post (λ κs a x s. a .0 ≡ v → x ≡ length bs)
+
+-- bytes read as a varint from their first place
+abbrev pub ReadsVarint : List ℕ → VarintFound → Type 0
+ReadsVarint bs found = Every 1 decode-varint.ps decode-varint.r decode-varint-reads.Post (λ κs a x s. now (a .0) ≡ bs → a .1 .0 ≡ 0 → varintTold x ≡ varintTold (varintRead 0 found))
+
+-- bytes skipped from a place, up to an end
+abbrev pub Skipped : List ℕ → ℕ → ℕ → WireType → Reached → Type 0
+Skipped bs at e w to =
+    Every 1 skip-field.ps skip-field.r skip-field-reads.Post
+    (λ κs a x s. now (a .0) ≡ bs → a .1 .0 ≡ at → a .1 .1 .0 ≡ e → a .1 .1 .1 .0 ≡ w → skippedTold x ≡ skippedTold (skipAnswer at to))
+
 -- a call with a case's bytes, start and end, and room for its fields, tells what the case says
 abbrev pub Tells : Case → Type 0
-Tells (Encodes v bs) = Unit {0}
-Tells (Varint bs found) = Unit {0}
+Tells (Encodes v bs) = Encoded v bs × ReadsVarint bs (varintFound.Got v (length bs))
+Tells (Varint bs found) = ReadsVarint bs found
 Tells (Reads bs a e m) = (c : Call) → message c ≡ bs → start c ≡ a → end c ≡ e → needed m ≤ room (table c) → readTold (answer c) ≡ told e m
-Tells (Skips bs e at w to) = Unit {0}
+Tells (Skips bs e at w to) = Skipped bs at e w to
 
 -- ---- the proof
 
@@ -43,11 +84,14 @@ told-into s a e t (Fields fs) h g = rw (into-fits s a e t fs h g)
 told-into s a e t (reading.Refused r p) h g = rw (into-refused s a e t r p h)
 
 -- a case lies inside the limit and its slice: computed for all of them at once
+abbrev within : List ℕ → ℕ → ℕ → Bool
+within bs a e = choose (leb (length bs) messageLimit) (choose (leb a (length bs)) (leb e (length bs)) false) false
+
 abbrev inside : Case → Bool
-inside (Encodes v bs) = true
-inside (Varint bs found) = true
-inside (Reads bs a e m) = choose (leb (length bs) messageLimit) (choose (leb a (length bs)) (leb e (length bs)) false) false
-inside (Skips bs e at w to) = true
+inside (Encodes v bs) = within bs 0 (length bs)
+inside (Varint bs found) = within bs 0 (length bs)
+inside (Reads bs a e m) = within bs a e
+inside (Skips bs e at w to) = within bs at e
 
 abbrev every : List Case → Bool
 every [] = true
@@ -64,18 +108,54 @@ both false b e = absurd (no e)
     no : false ≡ true → ⊥
     no e = let z : _≡_ {A = ℕ} 0 1 = ap code e in absurd (omega arith)
 
-tells : (k : Case) → Right k → inside k ≡ true → Tells k
-tells (Encodes v bs) w i = tt
-tells (Varint bs found) w i = tt
-tells (Reads bs a e m) w i =
-    λ c p q r g.
+-- so the gate is open
+open-gate : (bs : List ℕ) (a e : ℕ) → within bs a e ≡ true → gated (length bs) a e ≡ Open
+open-gate bs a e i =
     let x = both (leb (length bs) messageLimit) _ i in
     let y = both (leb a (length bs)) _ (x .1) in
+    gated-open (length bs) a e (leb-true (length bs) messageLimit (x .0)) (leb-true a (length bs) (y .0)) (leb-true e (length bs) (y .1))
+
+roomy : (b bs c : List ℕ) → length bs ≤ length b → roomFor b bs c ≡ record { answer = Done (length bs); buf = c }
+roomy b bs c f = rw (le-leb (length bs) (length b) f)
+
+encoded : (v : ℕ) (bs : List ℕ) → encode v ≡ bs → Encoded v bs
+unfolding atFront atEnd
+encoded v bs w =
+    record {
+      at-front = λ κs a x s p q f.
+          let b = now (a .1 .0) in
+          let e = p ∙ ap (λ (n : ℕ). atFront b (encode n)) q ∙ ap (atFront b) w ∙ roomy b bs (bs ++ drop (length bs) b) f in
+          (ap (λ (o : Stored). putTold (o .answer)) e, ap (λ (o : Stored). o .buf) e);
+      at-end = λ κs a x s p q f.
+          let b = now (a .1 .0) in
+          let e = p ∙ ap (λ (n : ℕ). atEnd b (encode n)) q ∙ ap (atEnd b) w ∙ roomy b bs (take (length b - length bs) b ++ bs) f in
+          (ap (λ (o : Stored). putTold (o .answer)) e, ap (λ (o : Stored). o .buf) e);
+      measured = λ κs a x s p q. p ∙ ap (λ (n : ℕ). length (encode n)) q ∙ ap length w;
+    }
+
+reads-varint : (bs : List ℕ) (found : VarintFound) → varintAt bs 0 ≡ found → within bs 0 (length bs) ≡ true → ReadsVarint bs found
+unfolding decodeVarint
+reads-varint bs found w i κs a x s p q r =
+    ap varintTold
+    (p ∙ ap (λ (m : List ℕ). decodeVarint m (a .1 .0)) q ∙ ap (decodeVarint bs) r ∙ through-open _ _ (open-gate bs 0 (length bs) i) ∙ ap (varintRead 0) w)
+
+skips : (bs : List ℕ) (at e : ℕ) (w : WireType) (to : Reached) → skipAt bs e at w ≡ to → within bs at e ≡ true → Skipped bs at e w to
+unfolding skipField
+skips bs at e w to h i κs a x s p q r t u =
+    ap skippedTold
+    (p ∙ ap (λ (m : List ℕ). skipField m (a .1 .0) (a .1 .1 .0) (a .1 .1 .1 .0)) q ∙ ap (λ (j : ℕ). skipField bs j (a .1 .1 .0) (a .1 .1 .1 .0)) r
+    ∙ ap (λ (j : ℕ). skipField bs at j (a .1 .1 .1 .0)) t ∙ ap (skipField bs at e) u ∙ through-open _ _ (open-gate bs at e i) ∙ ap (skipAnswer at) h)
+
+tells : (k : Case) → Right k → inside k ≡ true → Tells k
+unfolding readEntry
+tells (Encodes v bs) w i = (encoded v bs (w .0), reads-varint bs _ (w .1) i)
+tells (Varint bs found) w i = reads-varint bs found w i
+tells (Reads bs a e m) w i =
+    λ c p q r g.
     let t = table c in
     let z = ap (λ (s : List ℕ). readEntry s (start c) (end c) t) p ∙ ap (λ (j : ℕ). readEntry bs j (end c) t) q ∙ ap (λ (j : ℕ). readEntry bs a j t) r in
-    let o = entry-open bs a e t (leb-true (length bs) messageLimit (x .0)) (leb-true a (length bs) (y .0)) (leb-true e (length bs) (y .1)) in
-    ap (λ (o : Outcome). readTold (o .answer)) (c .allowed ∙ z ∙ o) ∙ told-into bs a e t m w g
-tells (Skips bs e at w to) h i = tt
+    ap (λ (o : Outcome). readTold (o .answer)) (c .allowed ∙ z ∙ through-open _ _ (open-gate bs a e i)) ∙ told-into bs a e t m w g
+tells (Skips bs e at w to) h i = skips bs at e w to h i
 
 tell : (cs : List Case) → All Right cs → every cs ≡ true → All Tells cs
 tell [] a b = tt

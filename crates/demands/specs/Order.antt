@@ -6,12 +6,12 @@ use mathlib.Core.Bool.{Bool, true, false}
 use mathlib.Core.List.{List, [], _∷_, _++_}
 use native.Mathlib.Omega.{arith}
 use contract.Lifetimes.{Lfts}
-use borrow.Fn.Kinds.{PK, RK, Out, Dens, resT, endedOf}
-use denote.Triple.Clauses.{AtExit}
+use borrow.Fn.Kinds.{PK, RK, Out, Dens, resT}
 use Rattle.wire.specs.Choose.{choose}
 use Rattle.wire.specs.Numbers.{numberOf}
 use Rattle.wire.specs.declared.Refusal.{Refusal}
 use Rattle.wire.specs.declared.Refusal.the-variants.{Truncated, InvalidVarint, TagOverflowed, TooLong, NoRoom, BadRecord, OutOfOrder, BadCap, WrongWireType, OutOfRange, Repeated, MissingField}
+use Rattle.demands.specs.Calls.{Every}
 
 pub record Rule : Type 0 where
   pub holds : Bool
@@ -47,10 +47,9 @@ pub record Ordered (rs : List Rule) (n : ℕ) : Type 0 where
   pub accepted : n ≡ 0 → None rs
   pub accepts : None rs → n ≡ 0
 
--- of a function with so many lifetimes, parameters ps and result r: whatever its contract post allows, its number is told by an order
+-- of a function, by its contract: every outcome's number is told by an order over the arguments
 abbrev pub Numbered : (l : ℕ) (ps : List (PK l)) (r : RK l) → Out l ps r → ((κs : Lfts l) → resT r κs .Denot → ℕ) → ((κs : Lfts l) → Dens κs ps → List Rule) → Type 0
-Numbered l ps r post number rules =
-    (κs : Lfts l) (a : Dens κs ps) (x : resT r κs .Denot) (s : AtExit (endedOf l ps r) κs) → post κs a x s → Ordered (rules κs a) (number κs x)
+Numbered l ps r post number rules = Every l ps r post (λ κs a x s. Ordered (rules κs a) (number κs x))
 
 -- ---- THE LAW
 
