@@ -70,11 +70,12 @@ pub use Rattle.capgauze.proofs.Only.{encode-message-one}
 pub use Rattle.capgauze.proofs.Only.{prepend-message-one}
 pub use Rattle.capgauze.proofs.Only.{encoded-len-message-one}
 pub use Rattle.capgauze.proofs.Only.{insert-one}
--- the reader that holds a message: over the predicates that its contracts cite
+-- the reader that holds a message; of its first three, over the predicates that their contracts cite
 pub use Rattle.reader.proofs.Only.{make-one as reader-make-one}
 pub use Rattle.reader.proofs.Only.{has-more-one as reader-has-more-one}
 pub use Rattle.reader.proofs.Only.{take-step-one as reader-take-step-one}
 pub use Rattle.reader.proofs.Only.{step-through-one as reader-step-through-one}
+pub use Rattle.reader.proofs.Only.{count-fields-one as reader-count-fields-one}
 -- a message read and written back
 pub use Rattle.copy.proofs.Only.{copy-message-one as copy-copy-message-one}
 -- digits
