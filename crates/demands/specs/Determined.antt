@@ -1,6 +1,6 @@
 -- Any two outcomes that a contract allows are equal: the answer, and the contents of all that was lent. Gathered here, a line for each public
 -- function of each crate; each is proved beside its contract, in `proofs/Only.antt` of its crate, by the one general law of wire/specs/Only. The face's have
--- their own names, those of the other crates their crate's name in front. The programs `dump`, `soundings` and `replay` have no public function but `main`.
+-- their own names, those of the other crates their crate's name in front. The programs `dump`, `soundings` and `replay` have no public function.
 
 -- bytes put at a place
 pub use Rattle.place.proofs.Only.{put-part-one as place-put-part-one}
