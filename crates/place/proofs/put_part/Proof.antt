@@ -1,86 +1,85 @@
--- `place::put_part` meets its contract.
-use Prim.Native.Nat.{_+_}
+-- `place::put_part` meets its contract: where there is room, the steps do.
 use mathlib.Core.Path.{sym}
 use native.Mathlib.Omega.{arith}
 use Rattle.place.specs.Place.{part-outside}
-use Rattle.place.proofs.Turns.{part-none, Copying, copy-start, copy-reads, copy-writes, copy-more, copy-done}
+use Rattle.place.proofs.Turns.{part-none}
 use borrow.Author.Needs.{needs}
 use Rattle.place.proofs.put_part.Statement.{statement}
 use Rattle.place.proofs.put_part.Tie as tie
 
-abbrev Inv-loop : tie.InvT-loop
-Inv-loop buf₀ at bytes from n p₀ q₀ left₀ buf p q left = Copying buf₀ at bytes from n buf p q left
-
-abbrev μ-loop : tie.MeasureT-loop
-μ-loop buf₀ at bytes from n p₀ q₀ left₀ buf p q left = left
-
-returns : tie.Need-returns Inv-loop μ-loop
+returns : tie.Need-returns
 returns c = sym (part-outside _ _ _ _ _ (omega arith))
 
-sub-if2 : tie.Need-sub-if2 Inv-loop μ-loop
+sub-if2 : tie.Need-sub-if2
 sub-if2 c = search needs
 
-returns-2 : tie.Need-returns-2 Inv-loop μ-loop
+returns-2 : tie.Need-returns-2
 returns-2 c = sym (part-outside _ _ _ _ _ (omega arith))
 
-returns-3 : tie.Need-returns-3 Inv-loop μ-loop
+returns-3 : tie.Need-returns-3
 returns-3 c = sym (part-none _ _ _ _ _ (omega arith) (omega arith))
 
-sub-if4 : tie.Need-sub-if4 Inv-loop μ-loop
+sub-if4 : tie.Need-sub-if4
 sub-if4 c = search needs
 
-returns-4 : tie.Need-returns-4 Inv-loop μ-loop
+returns-4 : tie.Need-returns-4
 returns-4 c = sym (part-none _ _ _ _ _ (omega arith) (omega arith))
 
-loop-holds : tie.Need-loop-holds Inv-loop μ-loop
-loop-holds c = copy-start _ _ _ _ _ (omega arith) (omega arith)
+put-each-requires : tie.Need-put-each-requires
+put-each-requires c κs = search needs
 
-shared-slice-read-buf : tie.Need-shared-slice-read-buf Inv-loop μ-loop
-shared-slice-read-buf c = copy-reads (c .before .before .loop .inv) (c .before .loop-test .taken)
+same-length : tie.Need-same-length
+same-length c = search needs
 
-slice-write-buf : tie.Need-slice-write-buf Inv-loop μ-loop
-slice-write-buf c = copy-writes (c .before .before .loop .inv) (c .before .loop-test .taken)
+returns-5 : tie.Need-returns-5
+returns-5 c = search needs
 
-add-p : tie.Need-add-p Inv-loop μ-loop
-add-p c = omega (arith, copy-writes (c .before .before .loop .inv) (c .before .loop-test .taken))
+put-steps-requires : tie.Need-put-steps-requires
+put-steps-requires c κs = search needs
 
-add-q : tie.Need-add-q Inv-loop μ-loop
-add-q c = omega (arith, copy-reads (c .before .before .loop .inv) (c .before .loop-test .taken))
+same-length-2 : tie.Need-same-length-2
+same-length-2 c = search needs
 
-sub-left : tie.Need-sub-left Inv-loop μ-loop
-sub-left c = search needs
+returns-6 : tie.Need-returns-6
+returns-6 c = search needs
 
-loop-less : tie.Need-loop-less Inv-loop μ-loop
-loop-less c = search needs
+put-steps-requires-2 : tie.Need-put-steps-requires-2
+put-steps-requires-2 c κs = search needs
 
-loop-again : tie.Need-loop-again Inv-loop μ-loop
-loop-again c = copy-more (c .before .before .loop .inv) (c .before .loop-test .taken)
+same-length-3 : tie.Need-same-length-3
+same-length-3 c = search needs
 
-same-length : tie.Need-same-length Inv-loop μ-loop
-same-length c = c .before .loop .inv .put .same
+returns-7 : tie.Need-returns-7
+returns-7 c = search needs
 
-returns-5 : tie.Need-returns-5 Inv-loop μ-loop
-returns-5 c = copy-done (c .before .loop .inv) (c .loop-test .left)
+put-steps-requires-3 : tie.Need-put-steps-requires-3
+put-steps-requires-3 c κs = search needs
+
+same-length-4 : tie.Need-same-length-4
+same-length-4 c = search needs
+
+returns-8 : tie.Need-returns-8
+returns-8 c = search needs
 
 pub put-part-spec : {M : Type 1} → statement M
 put-part-spec =
     tie.close
     (tie.spec
-    Inv-loop
-    μ-loop
     returns
     sub-if2
     returns-2
     returns-3
     sub-if4
     returns-4
-    loop-holds
-    shared-slice-read-buf
-    slice-write-buf
-    add-p
-    add-q
-    sub-left
-    loop-less
-    loop-again
+    put-each-requires
     same-length
-    returns-5)
+    returns-5
+    put-steps-requires
+    same-length-2
+    returns-6
+    put-steps-requires-2
+    same-length-3
+    returns-7
+    put-steps-requires-3
+    same-length-4
+    returns-8)
