@@ -1,15 +1,16 @@
--- The loop that puts a varint, and the scratch that one is prepended from.
+-- The loop that puts a varint, those of one byte and of two, and what is put up to a place.
 use Prim.Native.Nat.{ℕ, zero, suc, _+_, _-_, _*_, _/_, _%_, _^_, _≤_, _<_}
 use mathlib.Core.Path.{_≡_, refl, ap, _∙_, sym}
-use mathlib.Core.List.{List, [], _∷_, _++_}
+use mathlib.Core.List.{List, [], _∷_}
 use mathlib.Core.Logic.{_⊎_, inl, inr}
 use native.Mathlib.Omega.{arith}
 use native.Mathlib.Nat.{pow-suc, not-suc-le-zero}
-use lib.ListN.{length, take, drop, set}
-use lib.Seq.{sets, take-append-seam, length-sets}
+use native.Mathlib.Numerals.{add-one}
+use lib.ListN.{length, set}
+use lib.Seq.{sets}
 use Rattle.wire.specs.Varint.{enc, encode}
-use Rattle.wire.specs.VarintLaws.{enc-further, enc-ends, length-le}
-use Rattle.place.specs.Place.{Placed, putAt, prependAt, putPart, put-roomy, put-none, put-front, part-inside, prepend-roomy, Putting, put-start, put-more, put-inside, put-done}
+use Rattle.wire.specs.VarintLaws.{enc-further, enc-ends}
+use Rattle.place.specs.Place.{Placed, putAt, prependAt, put-roomy, put-none, prepend-roomy, Putting, put-start, put-more, put-inside, put-done}
 
 pub record Encoding (b : List ℕ) (at v : ℕ) (buf : List ℕ) (x p k : ℕ) : Type 0 where
   pub small : x < 256 * 128 ^ k
@@ -58,33 +59,31 @@ short-done b at v h g = rw (short v h) (put-done (put-more (put-start b at (v �
 pub short-none : (b : List ℕ) (at v : ℕ) → v < 128 → length b ≤ at → record { next = at; buf = b } ≡ putAt b at (encode v)
 short-none b at v h g = rw (short v h) (sym (put-none b at (v ∷ []) (omega arith)))
 
--- ---- from a scratch of nine bytes
+-- ---- two bytes
 
-module _ (z : List ℕ) (nine : length z ≡ 9) (v n : ℕ) (scratch : List ℕ) (e : _≡_ {A = Placed} (record { next = n; buf = scratch }) (putAt z 0 (encode v))) where
-  roomy : _≡_ {A = Placed} (record { next = n; buf = scratch }) (record { next = 0 + length (encode v); buf = sets z 0 (encode v) })
-  roomy = e ∙ put-roomy z 0 (encode v) (omega (arith, length-le v))
+module _ (v : ℕ) (h : 128 ≤ v) (g : v < 0x4080) where
+  two : encode v ≡ (128 + v % 128) ∷ (v / 128 - 1) ∷ []
+  unfolding encode
+  two = enc-further 8 v (omega arith) h ∙ ap (λ (l : List ℕ). (128 + v % 128) ∷ l) (enc-ends 7 (v / 128 - 1) (inl (omega arith)))
 
-  pub scratch-count : n ≡ length (encode v)
-  scratch-count = let q : n ≡ 0 + length (encode v) = ap (λ (o : Placed). o .next) roomy in omega arith
+  pub two-long : length (encode v) ≡ 2
+  two-long = ap length two
 
-  holds : scratch ≡ sets z 0 (encode v)
-  holds = ap (λ (o : Placed). o .buf) roomy
+  pub two-put : (b : List ℕ) (at : ℕ) → set (set b at (128 + v % 128)) (at + 1) (v / 128 - 1) ≡ sets b at (encode v)
+  two-put b at = rw (two, add-one at)
 
-  first : take n (drop 0 scratch) ≡ encode v
-  first =
-      rw (scratch-count, holds ∙ put-front z (encode v) (omega (arith, length-le v))) (take-append-seam (encode v) (drop (length (encode v)) z))
+  pub two-done : (b : List ℕ) (at : ℕ) {c : List ℕ} → at + 2 ≤ length b → c ≡ sets b at (encode v) → record { next = at + 2; buf = c } ≡ putAt b at (encode v)
+  two-done b at r e = sym (put-roomy b at (encode v) (omega (arith, two-long)) ∙ rw (e, two-long))
 
-  long : length scratch ≡ 9
-  long = rw holds (length-sets z 0 (encode v) ∙ nine)
+-- ---- up to a place
 
-  pub prepended : (b : List ℕ) (end m : ℕ) (b′ : List ℕ) → end ≤ length b → n ≤ end
-      → record { next = m; buf = b′ } ≡ putPart b (end - n) scratch 0 n
-      → record { next = end - n; buf = b′ } ≡ prependAt b end (encode v)
-  prepended b end m b′ g h p =
-      let c = scratch-count in
-      let l = long in
-      let q : _≡_ {A = Placed} (record { next = m; buf = b′ }) (putAt b (end - n) (encode v)) =
-      p ∙ part-inside b (end - n) scratch 0 n (omega (arith, length-le v)) ∙ ap (putAt b (end - n)) first in
-      let r : b′ ≡ sets b (end - n) (encode v) =
-      ap (λ (o : Placed). o .buf) (q ∙ put-roomy b (end - n) (encode v) (omega arith)) in
-      sym (prepend-roomy b end (encode v) g (omega arith) ∙ rw (← c, r))
+pub prepended : (b : List ℕ) (end v n : ℕ) {c : List ℕ} → n ≡ length (encode v) → end ≤ length b → n ≤ end → c ≡ sets b (end - n) (encode v)
+    → record { next = end - n; buf = c } ≡ prependAt b end (encode v)
+prepended b end v n l g h e = sym (prepend-roomy b end (encode v) g (omega arith) ∙ rw (← l, e))
+
+pub short-prepended : (b : List ℕ) (end v : ℕ) → v < 128 → end ≤ length b → 1 ≤ end → record { next = end - 1; buf = set b (end - 1) v } ≡ prependAt b end (encode v)
+short-prepended b end v h g i = prepended b end v 1 (sym (ap length (short v h))) g i (rw (short v h))
+
+pub long-prepended : (b : List ℕ) (end v n : ℕ) {m : ℕ} {c : List ℕ} → n ≡ length (encode v) → end ≤ length b → n ≤ end
+    → record { next = m; buf = c } ≡ putAt b (end - n) (encode v) → record { next = end - n; buf = c } ≡ prependAt b end (encode v)
+long-prepended b end v n l g h e = prepended b end v n l g h (ap (λ (o : Placed). o .buf) (e ∙ put-roomy b (end - n) (encode v) (omega arith)))

@@ -1,7 +1,9 @@
 // Varints: measured, read at a place of a slice, put at a place of a buffer, prepended to one; and the signed mapping.
 // From src/encoding/mod.rs (the looped twins of the varint functions, `Capped::decode_varint`) and varint.rs of bilrost.
 ghost use mathlib.Core.Path.{_≡_};
+ghost use Prim.Native.Nat.{_+_, _≤_, _<_};
 ghost use lib.ListN.{length};
+ghost use lib.Seq.{sets};
 ghost use Rattle.wire.specs.Varint.{encode};
 ghost use Rattle.wire.specs.Reading.{varintAt, cappedAt};
 ghost use Rattle.wire.specs.Signed.{toUnsigned, toSigned};
@@ -129,6 +131,15 @@ pub fn decode_varint_capped(s: &[u8], at: usize, end: usize) -> VarintFound
     }
 }
 
+// A number that is written as two bytes, where they have room.
+fn put_two(buf: &mut [u8], at: usize, v: u64)
+    requires { ⌜ (128 ≤ v) × (v < 0x4080) × (at + 2 ≤ length (now buf)) ⌝ }
+    ensures { λ r. ⌜ now (buf .exit) ≡ sets (now (buf .entry)) at (encode v) ⌝ }
+{
+    buf[at] = (128 + v % 128) as u8;
+    buf[at + 1] = (v / 128 - 1) as u8;
+}
+
 // A number of any length.
 fn put_long(buf: &mut [u8], at: usize, v: u64) -> usize
     ensures { λ r. ⌜ record { next = r; buf = now (buf .exit) } ≡ putAt (now (buf .entry)) at (encode v) ⌝ }
@@ -167,6 +178,16 @@ pub fn put_varint(buf: &mut [u8], at: usize, v: u64) -> usize
         }
         return at;
     }
+    if v < L2 {
+        if buf.len() < 2 {
+            return at;
+        }
+        if buf.len() - 2 < at {
+            return at;
+        }
+        put_two(buf, at, v);
+        return at + 2;
+    }
     put_long(buf, at, v)
 }
 
@@ -177,12 +198,25 @@ pub fn prepend_varint(buf: &mut [u8], end: usize, v: u64) -> usize
     if buf.len() < end {
         return end;
     }
-    let mut scratch = [0u8; 9];
-    let n = put_varint(&mut scratch, 0, v);
+    if v < 128 {
+        if end < 1 {
+            return end;
+        }
+        buf[end - 1] = v as u8;
+        return end - 1;
+    }
+    if v < L2 {
+        if end < 2 {
+            return end;
+        }
+        put_two(buf, end - 2, v);
+        return end - 2;
+    }
+    let n = encoded_len_varint(v);
     if end < n {
         return end;
     }
-    place::put_part(buf, end - n, &scratch, 0, n);
+    put_long(buf, end - n, v);
     end - n
 }
 

@@ -1,51 +1,78 @@
 -- `varint::prepend_varint` meets its contract.
-use mathlib.Core.Path.{sym, refl}
+use mathlib.Core.Path.{sym}
 use native.Mathlib.Omega.{arith}
-use Rattle.wire.specs.Varint.{encode}
+use Rattle.wire.specs.VarintLaws.{length-pos}
 use Rattle.place.specs.Place.{prepend-past, prepend-none}
-use Rattle.varint.proofs.Writing.{scratch-count, prepended}
-use borrow.Author.Needs.{needs}
+use Rattle.varint.proofs.Writing.{two-long, prepended, short-prepended, long-prepended}
 use borrow.Author.Needs.{needs}
 use Rattle.varint.proofs.prepend_varint.Statement.{statement}
 use Rattle.varint.proofs.prepend_varint.Tie as tie
 
 returns : tie.Need-returns
-returns c = let a = c .before .before .args in sym (prepend-past (a .buf .now) (a .end) (encode (a .v)) (c .if1 .taken))
-
-slice-aggregate-put-varint : tie.Need-slice-aggregate-put-varint
-slice-aggregate-put-varint c = search needs
-
-put-varint-requires : tie.Need-put-varint-requires
-put-varint-requires c κs = search needs
+returns c = sym (prepend-past _ _ _ (c .if1 .taken))
 
 returns-2 : tie.Need-returns-2
-returns-2 c =
-    let a = c .before .before .before .before .before .before .args in
-    sym (prepend-none (a .buf .now) (a .end) (encode (a .v)) (omega (arith, scratch-count _ refl _ _ _ (c .before .before .put-varint .ensures))))
+returns-2 c = sym (prepend-none _ _ _ (omega (arith, length-pos (c .before .before .before .before .args .v))))
 
-slice-aggregate-put-part : tie.Need-slice-aggregate-put-part
-slice-aggregate-put-part c = search needs
+cast-buf : tie.Need-cast-buf
+cast-buf c = search needs
 
-put-part-requires : tie.Need-put-part-requires
-put-part-requires c κs = search needs
+slice-write-buf : tie.Need-slice-write-buf
+slice-write-buf c = search needs
 
 same-length : tie.Need-same-length
 same-length c = search needs
 
 returns-3 : tie.Need-returns-3
-returns-3 c =
-    let d = c .before .before .before .before .before in
-    prepended _ refl _ _ _ (d .before .before .put-varint .ensures) _ _ _ _ (d .before .before .before .before .if1 .left) (d .if2 .left) (c .before .before .put-part .ensures)
+returns-3 c = short-prepended _ _ _ (c .before .if2 .taken) (c .before .before .if1 .left) (omega arith)
+
+returns-4 : tie.Need-returns-4
+returns-4 c = sym (prepend-none _ _ _ (omega (arith, two-long _ (c .before .before .if2 .left) (c .before .if4 .taken))))
+
+put-two-requires : tie.Need-put-two-requires
+put-two-requires c κs = search needs
+
+same-length-2 : tie.Need-same-length-2
+same-length-2 c = search needs
+
+returns-5 : tie.Need-returns-5
+returns-5 c =
+    let t = c .before .before .before .before .before in
+    prepended _ _ _ 2 (sym (two-long _ (t .before .if2 .left) (t .if4 .taken))) (t .before .before .if1 .left) (omega arith) (c .before .before .put-two .ensures)
+
+encoded-len-varint-requires : tie.Need-encoded-len-varint-requires
+encoded-len-varint-requires c κs = search needs
+
+returns-6 : tie.Need-returns-6
+returns-6 c = sym (prepend-none _ _ _ (omega (arith, c .before .encoded-len-varint .ensures)))
+
+put-long-requires : tie.Need-put-long-requires
+put-long-requires c κs = search needs
+
+same-length-3 : tie.Need-same-length-3
+same-length-3 c = search needs
+
+returns-7 : tie.Need-returns-7
+returns-7 c =
+    let t = c .before .before .before .before in
+    long-prepended _ _ _ _ (t .before .encoded-len-varint .ensures) (t .before .before .before .before .if1 .left) (t .if6 .left) (c .before .before .put-long .ensures)
 
 pub prepend-varint-spec : {M : Type 1} → statement M
 prepend-varint-spec =
     tie.close
     (tie.spec
     returns
-    slice-aggregate-put-varint
-    put-varint-requires
     returns-2
-    slice-aggregate-put-part
-    put-part-requires
+    cast-buf
+    slice-write-buf
     same-length
-    returns-3)
+    returns-3
+    returns-4
+    put-two-requires
+    same-length-2
+    returns-5
+    encoded-len-varint-requires
+    returns-6
+    put-long-requires
+    same-length-3
+    returns-7)
