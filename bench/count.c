@@ -17,7 +17,7 @@ size_t qemu_plugin_tb_n_insns(const struct qemu_plugin_tb *);
 struct qemu_plugin_insn *qemu_plugin_tb_get_insn(const struct qemu_plugin_tb *, size_t);
 const char *qemu_plugin_insn_symbol(const struct qemu_plugin_insn *);
 void qemu_plugin_register_vcpu_tb_exec_cb(struct qemu_plugin_tb *, Executed *, int flags, void *data);
-void qemu_plugin_register_vcpu_tb_exec_inline(struct qemu_plugin_tb *, int op, void *to, uint64_t number);
+void qemu_plugin_register_vcpu_insn_exec_inline(struct qemu_plugin_insn *, int op, void *to, uint64_t number);
 
 int qemu_plugin_version = 1;
 
@@ -33,13 +33,15 @@ static void end(unsigned cpu, void *data) {
     fprintf(out, "%" PRIu64 "\n", count);
     fflush(out);
 }
-/* A block of instructions is entered at its first alone, so its length is added once each time. */
+/* Each instruction is counted by itself: a block's length can have one too many, which lies across two pages and is
+ * translated again at the head of the next block. */
 static void translated(qemu_plugin_id_t id, struct qemu_plugin_tb *tb) {
     (void)id;
     const char *symbol = qemu_plugin_insn_symbol(qemu_plugin_tb_get_insn(tb, 0));
     if (symbol && !strcmp(symbol, "count_begin")) qemu_plugin_register_vcpu_tb_exec_cb(tb, begin, NO_REGS, 0);
     if (symbol && !strcmp(symbol, "count_end")) qemu_plugin_register_vcpu_tb_exec_cb(tb, end, NO_REGS, 0);
-    qemu_plugin_register_vcpu_tb_exec_inline(tb, ADD_U64, &count, qemu_plugin_tb_n_insns(tb));
+    for (size_t i = 0; i < qemu_plugin_tb_n_insns(tb); i++)
+        qemu_plugin_register_vcpu_insn_exec_inline(qemu_plugin_tb_get_insn(tb, i), ADD_U64, &count, 1);
 }
 
 int qemu_plugin_install(qemu_plugin_id_t id, const void *info, int argc, char **argv) {
