@@ -123,6 +123,9 @@ module _ (s : List ℕ) (p w c k : ℕ) (i : Passed w c k) (z : k ≡ 0) (h : p 
   pub ninth-over : 255 < w / 2 ^ 56 + getD s p 0 → stands s p w c k ≡ Refused InvalidVarint
   ninth-over f = rw (scale-last w c k i z) (over s p w (2 ^ 56) k h (inr z) (omega arith))
 
+pub none-left : (s : List ℕ) (at : ℕ) → length s ≤ at → varintAt s at ≡ Refused Truncated
+none-left s at h = start s at ∙ stop s at 0 1 8 h
+
 pub one-byte : (s : List ℕ) (at : ℕ) → at < length s → getD s at 0 < 128 → varintAt s at ≡ Got (getD s at 0) (at + 1)
 one-byte s at h g =
     let e : 0 + getD s at 0 * 1 ≡ getD s at 0 = omega arith in

@@ -2,7 +2,7 @@
 // From src/encoding/mod.rs (the looped twins of the varint functions, `Capped::decode_varint`) and varint.rs of bilrost.
 ghost use mathlib.Core.Path.{_≡_};
 ghost use Prim.Native.Nat.{_+_, _≤_, _<_};
-ghost use lib.ListN.{length};
+ghost use lib.ListN.{length, getD};
 ghost use lib.Seq.{sets};
 ghost use Rattle.wire.specs.Varint.{encode};
 ghost use Rattle.wire.specs.Reading.{varintAt, cappedAt};
@@ -57,14 +57,15 @@ pub fn encoded_len_varint(v: u64) -> usize
     }
 }
 
-// A varint of any length: up to eight bytes whose sum cannot be too large, and a ninth.
+// A varint that its first byte does not end: up to eight bytes whose sum cannot be too large, and a ninth.
 fn decode_long(s: &[u8], at: usize) -> VarintFound
+    requires { ⌜ (at < length (now s)) × (128 ≤ getD (now s) at 0) ⌝ }
     ensures { λ r. ⌜ r ≡ varintAt (now (s .entry)) at ⌝ }
 {
-    let mut value: u64 = 0;
-    let mut scale: u64 = 1;
-    let mut left: usize = 8;
-    let mut p = at;
+    let mut value = s[at] as u64;
+    let mut scale: u64 = 128;
+    let mut left: usize = 7;
+    let mut p = at + 1;
     while 0 < left {
         if s.len() <= p {
             return VarintFound::Refused(Refusal::Truncated);
@@ -92,16 +93,17 @@ fn decode_long(s: &[u8], at: usize) -> VarintFound
 pub fn decode_varint(s: &[u8], at: usize) -> VarintFound
     ensures { λ r. ⌜ r ≡ varintAt (now (s .entry)) at ⌝ }
 {
-    if at < s.len() {
-        let b = s[at] as u64;
-        if b < 128 {
-            return VarintFound::Got(b, at + 1);
-        }
-        if 1 < s.len() - at {
-            let c = s[at + 1] as u64;
-            if c < 128 {
-                return VarintFound::Got(b + 128 * c, at + 2);
-            }
+    if s.len() <= at {
+        return VarintFound::Refused(Refusal::Truncated);
+    }
+    let b = s[at] as u64;
+    if b < 128 {
+        return VarintFound::Got(b, at + 1);
+    }
+    if 1 < s.len() - at {
+        let c = s[at + 1] as u64;
+        if c < 128 {
+            return VarintFound::Got(b + 128 * c, at + 2);
         }
     }
     decode_long(s, at)
@@ -111,11 +113,12 @@ pub fn decode_varint(s: &[u8], at: usize) -> VarintFound
 pub fn decode_varint_capped(s: &[u8], at: usize, end: usize) -> VarintFound
     ensures { λ r. ⌜ r ≡ cappedAt (now (s .entry)) end at ⌝ }
 {
-    if at < s.len() {
-        let b = s[at] as u64;
-        if b < 128 {
-            return VarintFound::Got(b, at + 1);
-        }
+    if s.len() <= at {
+        return VarintFound::Refused(Refusal::Truncated);
+    }
+    let b = s[at] as u64;
+    if b < 128 {
+        return VarintFound::Got(b, at + 1);
     }
     match decode_long(s, at) {
         VarintFound::Got(v, next) => VarintFound::Got(v, next),

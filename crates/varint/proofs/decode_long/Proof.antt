@@ -5,7 +5,7 @@ use mathlib.Core.Logic.{inl}
 use native.Mathlib.Omega.{arith}
 use lib.ListN.{getD}
 use Rattle.wire.specs.Reading.{varintAt}
-use Rattle.varint.proofs.Reading.{Passed, stands, start, stop, step, last, ninth, ninth-over, sum-small, scale-small, scale-last, passed-more}
+use Rattle.varint.proofs.Reading.{Passed, stands, two-bytes, stop, step, last, ninth, ninth-over, sum-small, scale-small, scale-last, passed-more}
 use Rattle.varint.proofs.decode_long.Statement.{statement}
 use Rattle.varint.proofs.decode_long.Tie as tie
 
@@ -16,8 +16,19 @@ Inv-loop s at value₀ scale₀ left₀ p₀ value scale left p =
 abbrev μ-loop : tie.MeasureT-loop
 μ-loop s at value₀ scale₀ left₀ p₀ value scale left p = left
 
+shared-slice-read-value : tie.Need-shared-slice-read-value Inv-loop μ-loop
+shared-slice-read-value c = omega arith
+
+cast-value : tie.Need-cast-value Inv-loop μ-loop
+cast-value c = omega (arith, c .shared-slice-known .given (c .before .args .at))
+
+add-p : tie.Need-add-p Inv-loop μ-loop
+add-p c = omega arith
+
 loop-holds : tie.Need-loop-holds Inv-loop μ-loop
-loop-holds c = (record { small = omega arith; weight = refl }, start (c .args .s .now) (c .args .at))
+loop-holds c =
+    let a = c .before in
+    (record { small = omega (arith, c .shared-slice-known .given (a .args .at)); weight = refl }, two-bytes (a .args .s .now) (a .args .at) (a .pre .0) (a .pre .1))
 
 returns : tie.Need-returns Inv-loop μ-loop
 returns c =
@@ -28,30 +39,30 @@ shared-slice-read-b : tie.Need-shared-slice-read-b Inv-loop μ-loop
 shared-slice-read-b c = omega arith
 
 cast-b : tie.Need-cast-b Inv-loop μ-loop
-cast-b c = omega (arith, c .shared-slice-known .given (c .before .before .before .loop .p))
+cast-b c = omega (arith, c .shared-slice-known2 .given (c .before .before .before .loop .p))
 
 mul-value : tie.Need-mul-value Inv-loop μ-loop
 mul-value c =
     let l = c .before .before .before .loop in
-    let b = getD (c .before .before .before .before .args .s .now) (l .p) 0 in
-    let h : b < 256 = omega (arith, c .shared-slice-known .given (l .p)) in
+    let b = getD (c .before .before .before .before .before .args .s .now) (l .p) 0 in
+    let h : b < 256 = omega (arith, c .shared-slice-known2 .given (l .p)) in
     omega (arith, sum-small _ _ _ b (l .inv .0) h (c .before .before .loop-test .taken))
 
 add-value : tie.Need-add-value Inv-loop μ-loop
 add-value c =
     let l = c .before .before .before .loop in
-    let b = getD (c .before .before .before .before .args .s .now) (l .p) 0 in
-    let h : b < 256 = omega (arith, c .shared-slice-known .given (l .p)) in
+    let b = getD (c .before .before .before .before .before .args .s .now) (l .p) 0 in
+    let h : b < 256 = omega (arith, c .shared-slice-known2 .given (l .p)) in
     omega (arith, sum-small _ _ _ b (l .inv .0) h (c .before .before .loop-test .taken))
 
-add-p : tie.Need-add-p Inv-loop μ-loop
-add-p c = omega arith
+add-p-2 : tie.Need-add-p-2 Inv-loop μ-loop
+add-p-2 c = omega arith
 
 returns-2 : tie.Need-returns-2 Inv-loop μ-loop
 returns-2 c =
     let l = c .before .before .before .before .loop in
-    let s = c .before .before .before .before .before .args .s .now in
-    let h : getD s (l .p) 0 < 256 = omega (arith, c .before .shared-slice-known .given (l .p)) in
+    let s = c .before .before .before .before .before .before .args .s .now in
+    let h : getD s (l .p) 0 < 256 = omega (arith, c .before .shared-slice-known2 .given (l .p)) in
     sym
     (l .inv .1
     ∙ last s (l .p) (l .value) (l .scale) (l .left) (c .before .before .if1 .left) (inl (c .if2 .taken))
@@ -69,9 +80,9 @@ loop-less c = omega arith
 loop-again : tie.Need-loop-again Inv-loop μ-loop
 loop-again c =
     let l = c .before .before .before .before .loop in
-    let s = c .before .before .before .before .before .args .s .now in
+    let s = c .before .before .before .before .before .before .args .s .now in
     let t = c .before .before .before .loop-test .taken in
-    let h : getD s (l .p) 0 < 256 = omega (arith, c .before .shared-slice-known .given (l .p)) in (
+    let h : getD s (l .p) 0 < 256 = omega (arith, c .before .shared-slice-known2 .given (l .p)) in (
       passed-more (l .value) (l .scale) (l .left) (getD s (l .p) 0) (l .inv .0) h t,
       l .inv .1 ∙ step s (l .p) (l .value) (l .scale) (l .left) (c .before .before .if1 .left) (c .if2 .left) t,
     )
@@ -85,26 +96,26 @@ shared-slice-read-b-2 : tie.Need-shared-slice-read-b-2 Inv-loop μ-loop
 shared-slice-read-b-2 c = omega arith
 
 cast-b-2 : tie.Need-cast-b-2 Inv-loop μ-loop
-cast-b-2 c = omega (arith, c .shared-slice-known2 .given (c .before .before .before .loop .p))
+cast-b-2 c = omega (arith, c .shared-slice-known3 .given (c .before .before .before .loop .p))
 
 add-if4 : tie.Need-add-if4 Inv-loop μ-loop
 add-if4 c =
     let l = c .before .before .before .loop in
-    omega (arith, c .shared-slice-known2 .given (l .p), scale-last (l .value) (l .scale) (l .left) (l .inv .0) (omega arith))
+    omega (arith, c .shared-slice-known3 .given (l .p), scale-last (l .value) (l .scale) (l .left) (l .inv .0) (omega arith))
 
 returns-4 : tie.Need-returns-4 Inv-loop μ-loop
 returns-4 c =
     let l = c .before .before .before .before .loop in
     sym (l .inv .1 ∙ ninth-over _ (l .p) (l .value) (l .scale) (l .left) (l .inv .0) (omega arith) (c .before .before .if3 .left) (c .if4 .taken))
 
-mul-t20 : tie.Need-mul-t20 Inv-loop μ-loop
-mul-t20 c = omega (arith, c .before .shared-slice-known2 .given (c .before .before .before .before .loop .p))
+mul-t21 : tie.Need-mul-t21 Inv-loop μ-loop
+mul-t21 c = omega (arith, c .before .shared-slice-known3 .given (c .before .before .before .before .loop .p))
 
-add-t21 : tie.Need-add-t21 Inv-loop μ-loop
-add-t21 c = omega arith
+add-t22 : tie.Need-add-t22 Inv-loop μ-loop
+add-t22 c = omega arith
 
-add-t15 : tie.Need-add-t15 Inv-loop μ-loop
-add-t15 c = omega arith
+add-t17 : tie.Need-add-t17 Inv-loop μ-loop
+add-t17 c = omega arith
 
 returns-5 : tie.Need-returns-5 Inv-loop μ-loop
 returns-5 c =
@@ -117,13 +128,16 @@ decode-long-spec =
     (tie.spec
     Inv-loop
     μ-loop
+    shared-slice-read-value
+    cast-value
+    add-p
     loop-holds
     returns
     shared-slice-read-b
     cast-b
     mul-value
     add-value
-    add-p
+    add-p-2
     returns-2
     mul-scale
     sub-left
@@ -134,7 +148,7 @@ decode-long-spec =
     cast-b-2
     add-if4
     returns-4
-    mul-t20
-    add-t21
-    add-t15
+    mul-t21
+    add-t22
+    add-t17
     returns-5)
