@@ -252,7 +252,8 @@ fn fill(s: &[u8], start: usize, end: usize, table: &mut [u64])
     }
 }
 
-// A message read into a table: nothing is written before the whole message is known to be good and to have room.
+// A message read into a table: nothing is written before the whole message is known to be good and to have room. Fill is called in two
+// places, and so is not folded in here, where its places would take registers from pass one.
 pub fn read_into(s: &[u8], start: usize, end: usize, table: &mut [u64]) -> Read
     ensures { λ r. ⌜ record { answer = r; table = now (table .exit) } ≡ readInto (now (s .entry)) start end (now (table .entry)) ⌝ }
 {
@@ -261,6 +262,10 @@ pub fn read_into(s: &[u8], start: usize, end: usize, table: &mut [u64]) -> Read
         Decided::Fields(n) => {
             if table.len() / wire::RECORD_WORDS < n {
                 return Read::Refused(Refusal::NoRoom, 0, n);
+            }
+            if start == 0 {
+                fill(s, 0, end, table);
+                return Read::Accepted(end, n);
             }
             fill(s, start, end, table);
             Read::Accepted(end, n)

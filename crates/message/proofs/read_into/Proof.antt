@@ -9,7 +9,8 @@ use Rattle.wire.specs.Table.{filled}
 use Rattle.wire.specs.declared.Field.{Field}
 use Rattle.wire.specs.declared.Read.the-variants.{Accepted, Refused}
 use Rattle.wire.specs.declared.Refusal.the-variants.{NoRoom}
-use Rattle.message.specs.Into.{outcome, intoTable, into-refused, into-no-room, into-fits, decided-fields, decided-refused}
+use Rattle.message.specs.Into.{outcome, intoTable, readInto, into-refused, into-no-room, into-fits, decided-fields, decided-refused}
+use Rattle.message.specs.Second.{Fits}
 use borrow.Author.Needs.{needs}
 use Rattle.message.proofs.read_into.Statement.{statement}
 use Rattle.message.proofs.read_into.Tie as tie
@@ -35,27 +36,49 @@ returns c =
     let e = x .2 in
     ap (λ (n : ℕ). outcome (Refused NoRoom 0 n) t) (sym e) ∙ sym (into-no-room _ _ _ t (x .0) (x .1) (omega arith))
 
-fill-requires : tie.Need-fill-requires
-fill-requires c κs =
-    let x = counted (c .before .before) in
+-- there is room for them
+ready : (c : tie.Else1) → let a = c .before .before .before .before .before .before .before .args in Fits (a .s .now) (a .start) (a .end) (a .table .now)
+ready c =
+    let x = counted (c .before) in
     let e = x .2 in
     record { fields = x .0; read = x .1; room = omega arith }
 
-returns-2 : tie.Need-returns-2
-returns-2 c = sym (into-refused _ _ _ _ _ _ (decided-refused _ _ _ (sym (c .before .before .before .decide .ensures) ∙ c .before .r .given .1)))
+-- a table that was filled with them
+done : (c : tie.Else1) {u : List ℕ} → let a = c .before .before .before .before .before .before .before .args in
+    u ≡ intoTable (a .table .now) (readMessage (a .s .now) (a .start) (a .end))
+    → outcome (Accepted (a .end) (c .before .before .n .given .0 .0)) u ≡ readInto (a .s .now) (a .start) (a .end) (a .table .now)
+done c f =
+    let a = c .before .before .before .before .before .before .before .args in
+    let t = a .table .now in
+    let x = counted (c .before) in
+    let e = x .2 in
+    ap (outcome (Accepted (a .end) (c .before .before .n .given .0 .0))) (f ∙ ap (intoTable t) (x .1))
+    ∙ ap (λ (n : ℕ). outcome (Accepted (a .end) n) (filled t (x .0))) (sym e)
+    ∙ sym (into-fits _ _ _ t (x .0) (x .1) (omega arith))
+
+fill-requires : tie.Need-fill-requires
+fill-requires c κs = rw (c .before .if2 .taken) at (ready (c .before .before))
 
 same-length : tie.Need-same-length
 same-length c = search needs
 
+returns-2 : tie.Need-returns-2
+returns-2 c =
+    let i = c .before .before .before .before in
+    let a = i .before .before .before .before .before .before .before .before .args in
+    done (i .before) (c .before .before .fill .ensures ∙ ap (λ (p : ℕ). intoTable (a .table .now) (readMessage (a .s .now) p (a .end))) (sym (i .if2 .taken)))
+
+fill-requires-2 : tie.Need-fill-requires-2
+fill-requires-2 c κs = ready (c .before .before)
+
 returns-3 : tie.Need-returns-3
-returns-3 c =
-    let a = c .before .before .before .before .before .before .before .before .before .before .before .args in
-    let t = a .table .now in
-    let x = counted (c .before .before .before .before .before) in
-    let e = x .2 in
-    ap (outcome (Accepted (a .end) (c .before .before .before .before .before .before .n .given .0 .0))) (c .before .before .fill .ensures ∙ ap (intoTable t) (x .1))
-    ∙ ap (λ (n : ℕ). outcome (Accepted (a .end) n) (filled t (x .0))) (sym e)
-    ∙ sym (into-fits _ _ _ t (x .0) (x .1) (omega arith))
+returns-3 c = sym (into-refused _ _ _ _ _ _ (decided-refused _ _ _ (sym (c .before .before .before .decide .ensures) ∙ c .before .r .given .1)))
+
+same-length-2 : tie.Need-same-length-2
+same-length-2 c = search needs
+
+returns-4 : tie.Need-returns-4
+returns-4 c = done (c .before .before .before .before .before) (c .before .before .fill2 .ensures)
 
 pub read-into-spec : {M : Type 1} → statement M
 read-into-spec =
@@ -66,6 +89,9 @@ read-into-spec =
     enum-known-n
     returns
     fill-requires
-    returns-2
     same-length
-    returns-3)
+    returns-2
+    fill-requires-2
+    returns-3
+    same-length-2
+    returns-4)
