@@ -2,7 +2,6 @@
 // first word is the paper's number; `told` says what the other words are. A wire type passes as a number; one above 3 is BadRecord, before all else.
 ghost use mathlib.Core.Path.{_≡_};
 ghost use lib.ListN.{length as size};
-ghost use Rattle.wire.specs.Numbers.{numberOf};
 ghost use Rattle.wire.specs.Table.{kindWord, valueWord, lengthWord};
 ghost use Rattle.wire.specs.Varint.{encode};
 ghost use Rattle.wire.specs.Signed.{toUnsigned, toSigned};
@@ -30,7 +29,6 @@ use wire::Early;
 use wire::Inserted;
 use wire::Read;
 use wire::Record;
-use wire::Refusal;
 use wire::Value;
 use wire::WireType;
 use wire::Written;
@@ -145,26 +143,6 @@ pub struct SoundingWords {
     pub levels: u64,
 }
 
-// The paper's number of a refusal.
-fn number_of(r: Refusal) -> u64
-    ensures { λ n. ⌜ n ≡ numberOf r ⌝ }
-{
-    match r {
-        Refusal::Truncated => 1,
-        Refusal::InvalidVarint => 2,
-        Refusal::TagOverflowed => 3,
-        Refusal::TooLong => 4,
-        Refusal::NoRoom => 5,
-        Refusal::BadRecord => 6,
-        Refusal::OutOfOrder => 7,
-        Refusal::BadCap => 8,
-        Refusal::WrongWireType => 9,
-        Refusal::OutOfRange => 10,
-        Refusal::Repeated => 11,
-        Refusal::MissingField => 13,
-    }
-}
-
 fn wire_type(kind: u64) -> Typed
     ensures { λ r. ⌜ r ≡ typedOf kind ⌝ }
 {
@@ -222,7 +200,7 @@ fn put_words(p: Put) -> Number
             value: n as u64,
         },
         Put::Refused(r) => Number {
-            number: number_of(r),
+            number: wire::number_of(r),
             value: 0,
         },
     }
@@ -238,7 +216,7 @@ fn varint_words(v: VarintRead) -> Varint
             place: next as u64,
         },
         VarintRead::Refused(r, at) => Varint {
-            number: number_of(r),
+            number: wire::number_of(r),
             value: 0,
             place: at as u64,
         },
@@ -255,7 +233,7 @@ fn read_words(m: Read) -> ReadWords
             count: n as u64,
         },
         Read::Refused(r, p, n) => ReadWords {
-            number: number_of(r),
+            number: wire::number_of(r),
             place: p as u64,
             count: n as u64,
         },
@@ -276,7 +254,7 @@ fn key_words(k: KeyRead) -> KeyWords
             }
         }
         KeyRead::Refused(r, at, last) => KeyWords {
-            number: number_of(r),
+            number: wire::number_of(r),
             tag: last as u64,
             kind: 0,
             place: at as u64,
@@ -298,7 +276,7 @@ fn value_read_words(v: ValueRead) -> ValueWords
             }
         }
         ValueRead::Refused(r, at) => ValueWords {
-            number: number_of(r),
+            number: wire::number_of(r),
             value: 0,
             length: 0,
             place: at as u64,
@@ -315,7 +293,7 @@ fn skipped_words(k: Skipped) -> PlaceWords
             place: q as u64,
         },
         Skipped::Refused(r, at) => PlaceWords {
-            number: number_of(r),
+            number: wire::number_of(r),
             place: at as u64,
         },
     }
@@ -339,7 +317,7 @@ fn step_words(at: usize, last: u32, k: Step) -> StepWords
             }
         }
         Step::End => no_field(0, at, last),
-        Step::Refused(r, p, t) => no_field(number_of(r), p, t),
+        Step::Refused(r, p, t) => no_field(wire::number_of(r), p, t),
     }
 }
 
@@ -367,7 +345,7 @@ fn measured_words(m: Measured) -> Number
             value: n as u64,
         },
         Measured::Refused(r) => Number {
-            number: number_of(r),
+            number: wire::number_of(r),
             value: 0,
         },
     }
@@ -383,7 +361,7 @@ fn written_words(w: Written) -> WrittenWords
             length: n as u64,
         },
         Written::Refused(r, p, n) => WrittenWords {
-            number: number_of(r),
+            number: wire::number_of(r),
             start: p as u64,
             length: n as u64,
         },
@@ -399,7 +377,7 @@ fn inserted_words(i: Inserted) -> Number
             value: n as u64,
         },
         Inserted::Refused(r, n) => Number {
-            number: number_of(r),
+            number: wire::number_of(r),
             value: n as u64,
         },
     }
@@ -429,7 +407,7 @@ fn pick_words(p: Picked) -> PickWords
             length: 0,
         },
         Picked::Refused(r) => PickWords {
-            number: number_of(r),
+            number: wire::number_of(r),
             found: 0,
             kind: 0,
             value: 0,
@@ -463,7 +441,7 @@ fn several_words(p: Several) -> SeveralWords
             length: 0,
         },
         Several::Refused(r) => SeveralWords {
-            number: number_of(r),
+            number: wire::number_of(r),
             count: 0,
             found: 0,
             kind: 0,
@@ -498,7 +476,7 @@ fn early_words(p: Early) -> EarlyWords
             length: 0,
         },
         Early::Refused(r) => EarlyWords {
-            number: number_of(r),
+            number: wire::number_of(r),
             keys: 0,
             found: 0,
             kind: 0,
@@ -519,7 +497,7 @@ fn sounding_words(a: Sounding) -> SoundingWords
             levels: h.levels as u64,
         },
         Sounding::Refused(r) => SoundingWords {
-            number: number_of(r),
+            number: wire::number_of(r),
             station: 0,
             launch: 0,
             levels: 0,

@@ -2,6 +2,8 @@
 -- function of each crate; each is proved beside its contract, in `proofs/Only.antt` of its crate, by the one general law of wire/specs/Only. The face's have
 -- their own names, those of the other crates their crate's name in front. The programs `dump`, `soundings` and `replay` have no public function.
 
+-- what all share
+pub use Rattle.wire.proofs.Only.{number-of-one as wire-number-of-one}
 -- bytes put at a place
 pub use Rattle.place.proofs.Only.{put-part-one as place-put-part-one}
 pub use Rattle.place.proofs.Only.{put-fixed-one as place-put-fixed-one}

@@ -5,7 +5,6 @@ ghost use Prim.Native.Nat.{_+_, _*_, _≤_};
 ghost use lib.ListN.{length};
 ghost use Rattle.wire.specs.Fixed.{fixed};
 ghost use Rattle.wire.specs.Limits.{recordWords};
-ghost use Rattle.wire.specs.Numbers.{numberOf};
 ghost use Rattle.wire.specs.Places.{shown, itemOf, items};
 ghost use Rattle.wire.specs.Table.{recordAt, fieldIn, fieldsFrom};
 ghost use Rattle.place.specs.Place.{putAt};
@@ -15,7 +14,6 @@ ghost use Rattle.frames.specs.Print.{printFrame, Roomy, Lined, Valued, L
 use hex::Frame;
 use wire::Read;
 use wire::Record;
-use wire::Refusal;
 
 // The room in which the text of any frame has place.
 pub const FRAME_ROOM: usize = 65_664;
@@ -171,32 +169,20 @@ fn put_accepted(
     put_told(out, p, n, b" OK", count as u64, message.len() as u64)
 }
 
-fn number_of(r: Refusal) -> u64
-    ensures { λ x. ⌜ x ≡ numberOf r ⌝ }
-{
-    match r {
-        Refusal::Truncated => 1,
-        Refusal::InvalidVarint => 2,
-        Refusal::TagOverflowed => 3,
-        Refusal::TooLong => 4,
-        Refusal::NoRoom => 5,
-        Refusal::BadRecord => 6,
-        Refusal::OutOfOrder => 7,
-        Refusal::BadCap => 8,
-        Refusal::WrongWireType => 9,
-        Refusal::OutOfRange => 10,
-        Refusal::Repeated => 11,
-        Refusal::MissingField => 13,
-    }
-}
-
 // A message read into the table, and printed.
 fn put_message(out: &mut [u8], at: usize, n: u64, message: &[u8], table: &mut [u64]) -> usize
     requires { ⌜ Framable (now out) at (now message) ⌝ }
     ensures { λ r. ⌜ Messaged (now (out .entry)) at n (now (message .entry)) (now (table .entry)) r (now (out .exit)) (now (table .exit)) ⌝ }
 {
     match capgauze::read_message(message, 0, message.len(), table) {
-        Read::Refused(r, place, _) => put_told(out, at, n, b" NO", number_of(r), place as u64),
+        Read::Refused(r, place, _) => put_told(
+            out,
+            at,
+            n,
+            b" NO",
+            wire::number_of(r),
+            place as u64,
+        ),
         Read::Accepted(_, count) => put_accepted(out, at, n, message, table, count),
     }
 }

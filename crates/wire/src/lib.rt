@@ -1,5 +1,7 @@
-// The types that every room shares, and the numbers that have a name. Nothing is done here: what the bytes mean stands in specs/.
+// The types that every room shares, and the numbers that have a name. What the bytes mean stands in specs/.
 // WireType, Value and Refusal are from src/encoding/mod.rs, opaque.rs and error.rs of bilrost.
+ghost use mathlib.Core.Path.{_≡_};
+ghost use Rattle.wire.specs.Numbers.{numberOf};
 
 // The longest slice that is read, and the longest message that is written.
 pub const MESSAGE_LIMIT: usize = 65_535;
@@ -56,6 +58,26 @@ pub enum Refusal {
     OutOfRange,
     Repeated,
     MissingField,
+}
+
+// The paper's number of a refusal.
+pub fn number_of(r: Refusal) -> u64
+    ensures { λ n. ⌜ n ≡ numberOf r ⌝ }
+{
+    match r {
+        Refusal::Truncated => 1,
+        Refusal::InvalidVarint => 2,
+        Refusal::TagOverflowed => 3,
+        Refusal::TooLong => 4,
+        Refusal::NoRoom => 5,
+        Refusal::BadRecord => 6,
+        Refusal::OutOfOrder => 7,
+        Refusal::BadCap => 8,
+        Refusal::WrongWireType => 9,
+        Refusal::OutOfRange => 10,
+        Refusal::Repeated => 11,
+        Refusal::MissingField => 13,
+    }
 }
 
 // What a core finds at a place of a slice: something and the place after it, or why there is none.
