@@ -1,7 +1,9 @@
 -- What every reader tests before it reads: order 4, then 8.
 use Prim.Native.Nat.{ℕ, _≤_, _<_}
-use mathlib.Core.Path.{_≡_}
-use borrow.Author.Tests.{le-leb, lt-leb}
+use mathlib.Core.Path.{_≡_, refl, ap}
+use mathlib.Core.Bool.{Bool, true, false}
+use native.Mathlib.Omega.{arith}
+use borrow.Author.Tests.{le-leb, lt-leb, leb-true}
 use lib.Dec.{leb}
 use Rattle.wire.specs.Choose.{choose}
 use Rattle.wire.specs.Limits.{messageLimit}
@@ -41,3 +43,18 @@ module _ (n at e : ℕ) where
   pub gated-open : n ≤ messageLimit → at ≤ n → e ≤ n → gated n at e ≡ Open
   unfolding gated
   gated-open h a b = rw (le-leb n messageLimit h, le-leb at n a, le-leb e n b)
+
+shuts : Gated → ℕ
+shuts Open = 0
+shuts (Shut r) = 1
+
+-- an open gate: none of the tests refused
+pub gated-opens : (n at e : ℕ) → gated n at e ≡ Open → (n ≤ messageLimit) × (at ≤ n) × (e ≤ n)
+unfolding gated shuts
+gated-opens n at e h = go (leb n messageLimit) refl (leb at n) refl (leb e n) refl
+  where
+    go : (a : Bool) → leb n messageLimit ≡ a → (b : Bool) → leb at n ≡ b → (c : Bool) → leb e n ≡ c → (n ≤ messageLimit) × (at ≤ n) × (e ≤ n)
+    go true a true b true c = (leb-true n messageLimit a, leb-true at n b, leb-true e n c)
+    go true a true b false c = absurd (omega (arith, ap shuts (rw (a, b, c) at h)))
+    go true a false b c x = absurd (omega (arith, ap shuts (rw (a, b) at h)))
+    go false a b x c y = absurd (omega (arith, ap shuts (rw a at h)))

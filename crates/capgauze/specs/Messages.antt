@@ -1,6 +1,6 @@
 -- The entries on whole messages: what each answers, and what it leaves in the table.
 use Prim.Native.Nat.{ℕ, _+_, _≤_}
-use mathlib.Core.Path.{_≡_, refl, ap, _∙_}
+use mathlib.Core.Path.{_≡_, refl, ap}
 use mathlib.Core.List.{List, [], _∷_}
 use borrow.Author.Tests.{ne-eqb}
 use native.Mathlib.Omega.{arith}
@@ -11,7 +11,6 @@ use Rattle.wire.specs.Choose.{choose}
 use Rattle.wire.specs.Limits.{messageLimit}
 use Rattle.wire.specs.Reading.{Message, Fields, readMessage}
 use Rattle.wire.specs.Reading as reading
-use Rattle.wire.specs.declared.Refusal.{Refusal}
 use Rattle.wire.specs.declared.Refusal.the-variants.{Repeated}
 use Rattle.wire.specs.declared.Field.{Field}
 use Rattle.wire.specs.declared.Record.{Record}
@@ -20,7 +19,7 @@ use Rattle.wire.specs.declared.Early.{Early}
 use Rattle.wire.specs.declared.Early.the-variants as early
 use Rattle.early.specs.Early.{stop, earlyOf}
 use Rattle.message.specs.Into.{Outcome, outcome, readInto}
-use Rattle.message.specs.Tags.{ofTag, firstOf, atNumber, sought}
+use Rattle.message.specs.Tags.{ofTag, atNumber, sought}
 use Rattle.message.specs.Payload.{spanOf, payload}
 use Rattle.message.specs.declared.Span.{Span}
 use Rattle.message.specs.declared.Sought.{Sought}

@@ -1,14 +1,12 @@
 -- THE LOOKUP THAT STOPS EARLY. Where the full pick does not refuse, it answers the same. Elsewhere, if it answers, the bytes before the key that it
 -- stopped at are an accepted message, and pick on them answers the same. It has read a key for every field up to the wanted tag, and one more where
 -- it stopped at a higher key; where it is refused, it tells of none.
-use Prim.Native.Nat.{ℕ, _+_, _≤_, _<_}
+use Prim.Native.Nat.{ℕ, _+_, _≤_}
 use mathlib.Core.Path.{_≡_, refl, ap, _∙_, sym}
-use mathlib.Core.Bool.{Bool, true, false}
+use mathlib.Core.Bool.{true}
 use mathlib.Core.Logic.{_⊎_, inl, inr}
 use mathlib.Core.List.{List, [], _∷_}
 use native.Mathlib.Omega.{arith}
-use borrow.Author.Tests.{leb-true, leb-false}
-use lib.Dec.{leb}
 use lib.ListN.{length, take}
 use lib.Seq.{take-length, length-take-le}
 use contract.Lifetimes.{Lfts}
@@ -19,14 +17,13 @@ use Rattle.wire.specs.Reading.{Message, Fields, keyAt, readMessage}
 use Rattle.wire.specs.Reading as reading
 use Rattle.wire.specs.Limits.{messageLimit}
 use Rattle.wire.specs.declared.Refusal.{Refusal}
-use Rattle.wire.specs.declared.Refusal.the-variants.{TooLong}
 use Rattle.wire.specs.declared.Field.{Field}
 use Rattle.wire.specs.declared.Early.{Early}
 use Rattle.wire.specs.declared.Early.the-variants as early
 use Rattle.message.specs.Tags.{ofTag}
-use Rattle.early.specs.Early.{Above, above, only, earlyOf, stop}
+use Rattle.early.specs.Early.{above, only, earlyOf, stop}
 use Rattle.early.specs.Laws.{UpTo, lastOf, Stopped, at-end, at-key, not-read, stopped}
-use Rattle.capgauze.specs.Gate.{gated, through, through-open, through-shut, gated-open, gated-long}
+use Rattle.capgauze.specs.Gate.{gated, through, through-open, through-shut, gated-open, gated-opens}
 use Rattle.capgauze.specs.Messages.{pickedOf, picked, pickEntry, earlyEntry}
 use Rattle.capgauze.specs.declared.Gated.{Gated}
 use Rattle.capgauze.specs.declared.Gated.the-variants.{Open, Shut}
@@ -85,13 +82,6 @@ none-told : (r : Early) → (Answers (answerOf r) → ⊥) → keysOf r ≡ 0
 none-told (early.Found f n) h = absurd (h tt)
 none-told (early.Absent n) h = absurd (h tt)
 none-told (early.Refused r) h = refl
-
-open-short : (n : ℕ) → gated n 0 n ≡ Open → n ≤ messageLimit
-open-short n e = go (leb n messageLimit) refl
-  where
-    go : (b : Bool) → leb n messageLimit ≡ b → n ≤ messageLimit
-    go true b = leb-true n messageLimit b
-    go false b = let x : Open ≡ Shut TooLong = sym e ∙ gated-long n 0 n (leb-false n messageLimit b) in let z : _≡_ {A = ℕ} 0 1 = cc in absurd (omega arith)
 
 -- pick on a message that is not too long
 pick-short : (s : List ℕ) (t : ℕ) → length s ≤ messageLimit → pickEntry s t ≡ picked t (readMessage s 0 (length s))
@@ -160,7 +150,7 @@ module _ (s : List ℕ) (t : ℕ) where
   early-promise = go (gated (length s) 0 (length s)) refl
     where
       go : (g : Gated) → gated (length s) 0 (length s) ≡ g → Promise s t (through g early.Refused (earlyOf t (stop t s)))
-      go Open e = judged (open-short (length s) e) (earlyOf t (stop t s)) refl
+      go Open e = judged (gated-opens (length s) 0 (length s) e .0) (earlyOf t (stop t s)) refl
       go (Shut why) e = record { full = λ h. sym (shut e); early = λ h. absurd h; refused = λ h. refl }
 
 -- over every outcome that the contract of `pick_early` allows

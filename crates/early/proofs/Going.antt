@@ -5,12 +5,11 @@ use mathlib.Core.List.{List, [], _∷_, _++_, append-assoc, append-nil}
 use native.Mathlib.Omega.{arith}
 use borrow.Author.Tests.{lt-ltb, le-ltb, eq-eqb, ne-eqb}
 use lib.ListN.{length, length-append, drop}
-use Rattle.wire.specs.Reading.{keyAt, fieldAt}
 use Rattle.wire.specs.ReadingLaws.{field-moves}
 use Rattle.wire.specs.declared.Refusal.{Refusal}
 use Rattle.wire.specs.declared.Field.{Field}
-use Rattle.wire.specs.declared.FieldFound.the-variants as fieldFound
 use Rattle.message.specs.Tags.{ofTag}
+use Rattle.message.proofs.Walk.{positive}
 use Rattle.message.proofs.Seen.{Seen}
 use Rattle.early.specs.Early.{sightAt, Stop, Ends, Above, Refused, also, stopsFrom, stop, only, toldOf}
 use Rattle.early.specs.Laws.{sight-field}
@@ -41,9 +40,6 @@ pub record Going (t : ℕ) (s : List ℕ) (p last : ℕ) (fs : List Field) : Typ
 pub going-start : (t : ℕ) (s : List ℕ) → Going t s 0 0 []
 unfolding stop
 going-start t s = record { k = length s; fuel = omega arith; counted = omega arith; same = ahead-none (stop t s) }
-
-positive : (n : ℕ) → 0 < n → n ≡ suc (n - 1)
-positive n h = omega arith
 
 module _ {t : ℕ} {s : List ℕ} {p last : ℕ} {fs : List Field} (w : Going t s p last fs) where
   unwound : p < length s → stop t s ≡ ahead fs (stopsFrom (suc (w .k - 1)) t s p last)

@@ -1,5 +1,5 @@
 -- The search from the front, next to the message read whole.
-use Prim.Native.Nat.{ℕ, zero, suc, _+_, _-_, _≤_, _<_}
+use Prim.Native.Nat.{ℕ, zero, suc, _-_, _≤_, _<_}
 use mathlib.Core.Path.{_≡_, refl, ap, _∙_, sym}
 use mathlib.Core.Bool.{Bool, true, false}
 use mathlib.Core.List.{List, [], _∷_}
@@ -7,7 +7,6 @@ use native.Mathlib.Omega.{arith}
 use borrow.Author.Tests.{lt-ltb, le-ltb, ltb-true, ltb-false, ne-eqb}
 use lib.Dec.{ltb, eqb}
 use lib.ListN.{length, take}
-use Rattle.wire.specs.Choose.{choose}
 use Rattle.wire.specs.Reading.{keyAt, valueAt, tagged, fieldOf, fieldAt, Fields, more, readsFrom, readMessage}
 use Rattle.wire.specs.Reading as reading
 use Rattle.wire.specs.ReadingLaws.{field-moves}
@@ -24,7 +23,7 @@ use Rattle.wire.specs.declared.ValueFound.the-variants as valueFound
 use Rattle.wire.specs.declared.FieldFound.{FieldFound}
 use Rattle.wire.specs.declared.FieldFound.the-variants as fieldFound
 use Rattle.message.specs.Tags.{ofTag}
-use Rattle.early.specs.Early.{above, sightOf, sightAt, Stop, Ends, Above, Refused, also, onward, stopsFrom, stop}
+use Rattle.early.specs.Early.{above, sightOf, sightAt, Ends, Above, Refused, stopsFrom, stop}
 use Rattle.early.specs.declared.Sight.{Sight}
 use Rattle.early.specs.declared.Sight.the-variants as sight
 

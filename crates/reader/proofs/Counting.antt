@@ -1,14 +1,10 @@
 -- Fields counted by steps: where the count stands, and what a field, the end and a refusal make of it.
 use Prim.Native.Nat.{ℕ, _+_, _≤_, _<_}
 use mathlib.Core.Path.{_≡_, refl, ap, _∙_, sym}
-use mathlib.Core.Bool.{Bool, true, false}
 use mathlib.Core.Logic.{_⊎_, inl, inr}
 use mathlib.Core.List.{List, [], _∷_, _++_}
 use native.Mathlib.Omega.{arith}
-use borrow.Author.Tests.{leb-true}
-use lib.Dec.{leb}
 use lib.ListN.{length, length-append}
-use Rattle.wire.specs.Limits.{messageLimit}
 use Rattle.wire.specs.Reading.{stepAt}
 use Rattle.wire.specs.ReadingLaws.{field-moves}
 use Rattle.wire.specs.StepBack.{step-field}
@@ -17,7 +13,7 @@ use Rattle.wire.specs.declared.Field.{Field}
 use Rattle.wire.specs.declared.Stepped.{Stepped}
 use Rattle.wire.specs.declared.Stepped.the-variants as stepped
 use Rattle.message.proofs.Walk.{Walk, walk-start, walk-step, walk-steps-end, walk-step-refused}
-use Rattle.capgauze.specs.Gate.{gated, through, through-shut, through-open, gated-open}
+use Rattle.capgauze.specs.Gate.{gated, through, through-shut, through-open, gated-open, gated-opens}
 use Rattle.capgauze.specs.Fields.{stepAnswer, stepEntry}
 use Rattle.capgauze.specs.declared.Gated.{Gated}
 use Rattle.capgauze.specs.declared.Gated.the-variants.{Open, Shut}
@@ -26,21 +22,7 @@ use Rattle.capgauze.specs.declared.Step.the-variants as step
 use Rattle.reader.specs.Counting.{counted, countEntry}
 use Rattle.reader.specs.declared.Counted.the-variants as countedAs
 
--- ---- an open gate, and a step behind it
-
-shuts : Gated → ℕ
-shuts Open = 0
-shuts (Shut r) = 1
-
-opens : (n at e : ℕ) → gated n at e ≡ Open → (n ≤ messageLimit) × (at ≤ n) × (e ≤ n)
-unfolding gated shuts
-opens n at e h = go (leb n messageLimit) refl (leb at n) refl (leb e n) refl
-  where
-    go : (a : Bool) → leb n messageLimit ≡ a → (b : Bool) → leb at n ≡ b → (c : Bool) → leb e n ≡ c → (n ≤ messageLimit) × (at ≤ n) × (e ≤ n)
-    go true a true b true c = (leb-true n messageLimit a, leb-true at n b, leb-true e n c)
-    go true a true b false c = absurd (omega (arith, ap shuts (rw (a, b, c) at h)))
-    go true a false b c x = absurd (omega (arith, ap shuts (rw (a, b) at h)))
-    go false a b x c y = absurd (omega (arith, ap shuts (rw a at h)))
+-- ---- a step behind an open gate
 
 way : Step → ℕ
 way (step.Field f q) = 0
@@ -105,7 +87,7 @@ module _ {s : List ℕ} {a e p last n : ℕ} (c : Counting s a e p last n) where
   pub more : (f : Field) (q : ℕ) → stepEntry s p e last ≡ step.Field f q → Counting s a e q (f .tag) (n + 1)
   more f q h =
       let x = field-of s p e last f q h in
-      let o = opens (length s) p e (x .0) in
+      let o = gated-opens (length s) p e (x .0) in
       record {
         mark = p;
         fields = c .fields ++ f ∷ [];

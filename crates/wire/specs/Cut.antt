@@ -1,26 +1,22 @@
 -- A slice cut at a place: whatever was read before the cut is read in what is left, and the same.
-use Prim.Native.Nat.{ℕ, zero, suc, _+_, _-_, _≤_, _<_, _^_}
+use Prim.Native.Nat.{ℕ, zero, suc, _+_, _-_, _≤_, _^_}
 use mathlib.Core.Path.{_≡_, refl, ap, _∙_, sym}
 use mathlib.Core.List.{List, [], _∷_}
 use native.Mathlib.Omega.{arith}
 use borrow.Author.Tests.{lt-ltb, le-ltb}
-use lib.Dec.{ltb}
 use lib.ListN.{length, take, drop}
 use lib.Seq.{take-nil, take-take, length-take-le}
-use Rattle.wire.specs.Choose.{choose}
-use Rattle.wire.specs.Varint.{Adds, before, sum}
-use Rattle.wire.specs.VarintLaws.{Summed, ends, goes-on, summed, sum-ends, sum-takes, stops}
+use Rattle.wire.specs.Varint.{Adds, sum}
+use Rattle.wire.specs.VarintLaws.{Summed, ends, goes-on, summed, sum-takes, stops}
 use Rattle.wire.specs.Fixed.{number}
-use Rattle.wire.specs.Reading.{varintAt, cappedAt, keyAt, within, numberFrom, payloadFrom, valueAt, fieldAt}
-use Rattle.wire.specs.ReadingLaws.{varint-moves, judged-got, renamed-got, number-got, payload-got, within-got, within-back, key-took, value-moves, field-found}
+use Rattle.wire.specs.Reading.{varintAt, cappedAt, within, valueAt, fieldAt}
+use Rattle.wire.specs.ReadingLaws.{judged-got, renamed-got, number-got, payload-got, within-got, within-back, value-moves, field-found}
 use Rattle.wire.specs.declared.WireType.{WireType}
 use Rattle.wire.specs.declared.WireType.the-variants as wireType
 use Rattle.wire.specs.declared.Value.{Value}
 use Rattle.wire.specs.declared.Value.the-variants as val
 use Rattle.wire.specs.declared.Field.{Field}
-use Rattle.wire.specs.declared.Key.{Key}
 use Rattle.wire.specs.declared.VarintFound.the-variants as varintFound
-use Rattle.wire.specs.declared.KeyFound.the-variants as keyFound
 use Rattle.wire.specs.declared.ValueFound.the-variants as valueFound
 use Rattle.wire.specs.declared.FieldFound.the-variants as fieldFound
 

@@ -1,10 +1,6 @@
 -- What there is at number 0, if that is all.
 use mathlib.Core.Path.{_≡_, _∙_, ap, sym}
 use borrow.Author.Tests.{eq-eqb, ne-eqb}
-use lib.Dec.{eqb}
-use Rattle.wire.specs.Choose.{choose}
-use Rattle.wire.specs.declared.Refusal.the-variants.{Repeated}
-use Rattle.capgauze.specs.declared.Picked.the-variants.{Found, Refused}
 use Rattle.capgauze.specs.Messages.{pickEntry, pickedFrom, picked-several}
 use borrow.Author.Needs.{needs}
 use Rattle.capgauze.proofs.pick.Statement.{statement}

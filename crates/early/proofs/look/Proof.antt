@@ -1,5 +1,5 @@
 -- The key, then its value, unless it is above the tag.
-use mathlib.Core.Path.{_≡_, _∙_, sym}
+use mathlib.Core.Path.{_∙_, sym}
 use borrow.Author.Needs.{needs}
 use Rattle.early.specs.Laws.{sight-refused, sight-above, sight-value}
 use Rattle.early.proofs.look.Statement.{statement}

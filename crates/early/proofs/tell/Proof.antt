@@ -1,6 +1,5 @@
 -- None, one, more.
 use borrow.Author.Tests.{eq-eqb, ne-eqb}
-use Rattle.wire.specs.Choose.{choose}
 use Rattle.early.proofs.tell.Statement.{statement}
 use Rattle.early.proofs.tell.Tie as tie
 
