@@ -1,23 +1,10 @@
--- The entries on keys, values and single fields: a refused reader answers the place it was given, and the last tag if it takes one.
-use Prim.Native.Nat.{ℕ, _+_, _-_, _*_, _≤_, _<_}
-use mathlib.Core.Path.{_≡_, refl, ap, _∙_, sym}
+-- The entries on values and single fields: a refused reader answers the place it was given, and the last tag if it takes one.
+use Prim.Native.Nat.{ℕ}
 use mathlib.Core.List.{List}
-use native.Mathlib.Omega.{arith}
-use borrow.Author.Tests.{le-leb, lt-leb}
-use lib.Dec.{leb}
 use lib.ListN.{length}
-use Rattle.wire.specs.Choose.{choose}
-use Rattle.wire.specs.Numbers.{typeOf}
-use Rattle.wire.specs.Varint.{encode}
-use Rattle.wire.specs.VarintLength.{length-four}
-use Rattle.wire.specs.Reading.{keyAt, valueAt, stepAt}
+use Rattle.wire.specs.Reading.{valueAt, stepAt}
 use Rattle.wire.specs.Skipping.{skipAt}
-use Rattle.wire.specs.declared.Refusal.{Refusal}
-use Rattle.wire.specs.declared.Refusal.the-variants.{OutOfOrder}
 use Rattle.wire.specs.declared.WireType.{WireType}
-use Rattle.wire.specs.declared.WireType.the-variants as wireType
-use Rattle.wire.specs.declared.KeyFound.{KeyFound}
-use Rattle.wire.specs.declared.KeyFound.the-variants as keyFound
 use Rattle.wire.specs.declared.ValueFound.{ValueFound}
 use Rattle.wire.specs.declared.ValueFound.the-variants as valueFound
 use Rattle.wire.specs.declared.Reached.{Reached}
@@ -25,27 +12,12 @@ use Rattle.wire.specs.declared.Reached.the-variants as reached
 use Rattle.wire.specs.declared.Stepped.{Stepped}
 use Rattle.wire.specs.declared.Stepped.the-variants as stepped
 use Rattle.capgauze.specs.Gate.{gated, through}
-use Rattle.capgauze.specs.Stores.{Stored, atFront, atEnd}
-use Rattle.capgauze.specs.declared.Put.the-variants as put
-use Rattle.capgauze.specs.declared.KeyRead.{KeyRead}
-use Rattle.capgauze.specs.declared.KeyRead.the-variants as keyRead
 use Rattle.capgauze.specs.declared.ValueRead.{ValueRead}
 use Rattle.capgauze.specs.declared.ValueRead.the-variants as valueRead
 use Rattle.capgauze.specs.declared.Skipped.{Skipped}
 use Rattle.capgauze.specs.declared.Skipped.the-variants as skipped
 use Rattle.capgauze.specs.declared.Step.{Step}
 use Rattle.capgauze.specs.declared.Step.the-variants as step
-use Rattle.capgauze.specs.declared.Measured.{Measured}
-use Rattle.capgauze.specs.declared.Measured.the-variants as measured
-
--- ---- read
-
-abbrev pub keyAnswer : ℕ → ℕ → KeyFound → KeyRead
-keyAnswer at last (keyFound.Got k q) = keyRead.Got k q
-keyAnswer at last (keyFound.Refused r) = keyRead.Refused r at last
-
-unfoldable pub decodeKey : List ℕ → ℕ → ℕ → ℕ → KeyRead
-decodeKey s at e last = through (gated (length s) at e) (λ r. keyRead.Refused r at last) (keyAnswer at last (keyAt s e at last))
 
 abbrev pub valueAnswer : ℕ → ValueFound → ValueRead
 valueAnswer at (valueFound.Got v q) = valueRead.Got v q
@@ -68,54 +40,3 @@ stepAnswer at last (stepped.Refused r) = step.Refused r at last
 
 unfoldable pub stepEntry : List ℕ → ℕ → ℕ → ℕ → Step
 stepEntry s at e last = through (gated (length s) at e) (λ r. step.Refused r at last) (stepAnswer at last (stepAt s e at last))
-
--- ---- written: a tag below the last one is OutOfOrder, and the buffer stays
-
-abbrev pub keyBytes : ℕ → ℕ → WireType → List ℕ
-keyBytes last tag w = encode (4 * (tag - last) + typeOf w)
-
-unfoldable pub keyAtFront : List ℕ → ℕ → ℕ → WireType → Stored
-keyAtFront b last tag w = choose (leb last tag) (atFront b (keyBytes last tag w)) (record { answer = put.Refused OutOfOrder; buf = b })
-
-unfoldable pub keyAtEnd : List ℕ → ℕ → ℕ → WireType → Stored
-keyAtEnd b last tag w = choose (leb last tag) (atEnd b (keyBytes last tag w)) (record { answer = put.Refused OutOfOrder; buf = b })
-
--- measured without its wire type, which never changes the length
-unfoldable pub keyLen : ℕ → ℕ → Measured
-keyLen last tag = choose (leb last tag) (measured.Length (length (encode (4 * (tag - last))))) (measured.Refused OutOfOrder)
-
--- the two cases of each: the tag falls, or the order is held
-module _ (b : List ℕ) (last tag : ℕ) (w : WireType) where
-  pub front-falls : tag < last → keyAtFront b last tag w ≡ record { answer = put.Refused OutOfOrder; buf = b }
-  unfolding keyAtFront
-  front-falls h = rw (lt-leb last tag h)
-
-  pub front-order : last ≤ tag → keyAtFront b last tag w ≡ atFront b (keyBytes last tag w)
-  unfolding keyAtFront
-  front-order h = rw (le-leb last tag h)
-
-  pub end-falls : tag < last → keyAtEnd b last tag w ≡ record { answer = put.Refused OutOfOrder; buf = b }
-  unfolding keyAtEnd
-  end-falls h = rw (lt-leb last tag h)
-
-  pub end-order : last ≤ tag → keyAtEnd b last tag w ≡ atEnd b (keyBytes last tag w)
-  unfolding keyAtEnd
-  end-order h = rw (le-leb last tag h)
-
-pub len-falls : (last tag : ℕ) → tag < last → keyLen last tag ≡ measured.Refused OutOfOrder
-unfolding keyLen
-len-falls last tag h = rw (lt-leb last tag h)
-
-pub len-order : (last tag : ℕ) → last ≤ tag → keyLen last tag ≡ measured.Length (length (encode (4 * (tag - last))))
-unfolding keyLen
-len-order last tag h = rw (le-leb last tag h)
-
--- THE TYPE NEVER CHANGES A KEY'S LENGTH
-pub key-length : (last tag : ℕ) (w : WireType) → length (encode (4 * (tag - last))) ≡ length (keyBytes last tag w)
-key-length last tag w = sym (length-four (tag - last) (typeOf w) (type-below w))
-  where
-    type-below : (w : WireType) → typeOf w < 4
-    type-below wireType.Varint = omega arith
-    type-below wireType.LengthDelimited = omega arith
-    type-below wireType.ThirtyTwoBit = omega arith
-    type-below wireType.SixtyFourBit = omega arith

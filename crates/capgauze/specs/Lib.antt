@@ -2,6 +2,7 @@ pub mod Gate
 pub mod Told
 pub mod Stores
 pub mod Varints
+pub mod Keys
 pub mod Fields
 pub mod Messages
 pub mod Writers

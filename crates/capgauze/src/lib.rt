@@ -7,7 +7,8 @@ ghost use Rattle.wire.specs.Numbers.{typeOf};
 ghost use Rattle.wire.specs.Reading.{wireOf};
 ghost use Rattle.wire.specs.Signed.{toUnsigned, toSigned};
 ghost use Rattle.message.specs.Into.{Outcome};
-ghost use Rattle.capgauze.specs.Fields.{decodeKey, keyAtFront, keyAtEnd, keyLen, decodeValue, skipField, stepEntry};
+ghost use Rattle.capgauze.specs.Keys.{decodeKey, keyAtFront, keyAtEnd, keyLen};
+ghost use Rattle.capgauze.specs.Fields.{decodeValue, skipField, stepEntry};
 ghost use Rattle.wire.specs.Writing.{Writing};
 ghost use Rattle.wire.specs.Insertion.{Insertion};
 ghost use Rattle.capgauze.specs.Gate.{gated};
@@ -197,14 +198,14 @@ pub fn u64_to_signed(u: u64) -> i64
 pub fn wire_type_of(key: u64) -> WireType
     ensures { λ r. ⌜ r ≡ wireOf (key % 4) ⌝ }
 {
-    field::wire_type_of(key)
+    key::wire_type_of(key)
 }
 
 // A wire type's number.
 pub fn wire_number(wire: WireType) -> u64
     ensures { λ r. ⌜ r ≡ typeOf wire ⌝ }
 {
-    field::wire_number(wire)
+    key::wire_number(wire)
 }
 
 // ---- keys, values, one field
@@ -216,7 +217,7 @@ pub fn decode_key(s: &[u8], at: usize, end: usize, last: u32) -> KeyRead
     if let Gated::Shut(r) = gate(s.len(), at, end) {
         return KeyRead::Refused(r, at, last);
     }
-    match field::decode_key(s, at, end, last) {
+    match key::decode_key(s, at, end, last) {
         KeyFound::Got(k, next) => KeyRead::Got(k, next),
         KeyFound::Refused(r) => KeyRead::Refused(r, at, last),
     }
@@ -229,7 +230,7 @@ pub fn encode_key(last: u32, tag: u32, wire: WireType, buf: &mut [u8]) -> Put
     if tag < last {
         return Put::Refused(Refusal::OutOfOrder);
     }
-    let n = field::put_key(buf, 0, last, tag, wire);
+    let n = key::put_key(buf, 0, last, tag, wire);
     if n == 0 {
         return Put::Refused(Refusal::NoRoom);
     }
@@ -244,7 +245,7 @@ pub fn prepend_key(last: u32, tag: u32, wire: WireType, buf: &mut [u8]) -> Put
         return Put::Refused(Refusal::OutOfOrder);
     }
     let end = buf.len();
-    let start = field::prepend_key(buf, end, last, tag, wire);
+    let start = key::prepend_key(buf, end, last, tag, wire);
     if start == end {
         return Put::Refused(Refusal::NoRoom);
     }
@@ -258,7 +259,7 @@ pub fn key_len(last: u32, tag: u32) -> Measured
     if tag < last {
         return Measured::Refused(Refusal::OutOfOrder);
     }
-    Measured::Length(field::key_len(last, tag))
+    Measured::Length(key::key_len(last, tag))
 }
 
 // The value of a wire type at a place, under an end. Only a varint's place after it may be past the end.
@@ -268,7 +269,7 @@ pub fn decode_value(s: &[u8], at: usize, end: usize, wire: WireType) -> ValueRea
     if let Gated::Shut(r) = gate(s.len(), at, end) {
         return ValueRead::Refused(r, at);
     }
-    match field::decode_value(s, at, end, wire) {
+    match value::decode_value(s, at, end, wire) {
         ValueFound::Got(v, next) => ValueRead::Got(v, next),
         ValueFound::Refused(r) => ValueRead::Refused(r, at),
     }
@@ -281,7 +282,7 @@ pub fn skip_field(s: &[u8], at: usize, end: usize, wire: WireType) -> Skipped
     if let Gated::Shut(r) = gate(s.len(), at, end) {
         return Skipped::Refused(r, at);
     }
-    match field::skip_field(s, at, end, wire) {
+    match skip::skip_field(s, at, end, wire) {
         Reached::To(q) => Skipped::To(q),
         Reached::Refused(r) => Skipped::Refused(r, at),
     }

@@ -16,17 +16,17 @@ pub use Rattle.varint.proofs.Only.{prepend-varint-one as varint-prepend-varint-
 pub use Rattle.varint.proofs.Only.{i64-to-unsigned-one as varint-i64-to-unsigned-one}
 pub use Rattle.varint.proofs.Only.{u64-to-signed-one as varint-u64-to-signed-one}
 -- one field
-pub use Rattle.field.proofs.Only.{wire-type-of-one as field-wire-type-of-one}
-pub use Rattle.field.proofs.Only.{wire-number-one as field-wire-number-one}
-pub use Rattle.field.proofs.Only.{key-len-one as field-key-len-one}
-pub use Rattle.field.proofs.Only.{put-key-one as field-put-key-one}
-pub use Rattle.field.proofs.Only.{prepend-key-one as field-prepend-key-one}
-pub use Rattle.field.proofs.Only.{decode-key-one as field-decode-key-one}
-pub use Rattle.field.proofs.Only.{four-bytes-one as field-four-bytes-one}
-pub use Rattle.field.proofs.Only.{decode-value-one as field-decode-value-one}
+pub use Rattle.key.proofs.Only.{wire-type-of-one as field-wire-type-of-one}
+pub use Rattle.key.proofs.Only.{wire-number-one as field-wire-number-one}
+pub use Rattle.key.proofs.Only.{key-len-one as field-key-len-one}
+pub use Rattle.key.proofs.Only.{put-key-one as field-put-key-one}
+pub use Rattle.key.proofs.Only.{prepend-key-one as field-prepend-key-one}
+pub use Rattle.key.proofs.Only.{decode-key-one as field-decode-key-one}
+pub use Rattle.value.proofs.Only.{four-bytes-one as field-four-bytes-one}
+pub use Rattle.value.proofs.Only.{decode-value-one as field-decode-value-one}
 pub use Rattle.field.proofs.Only.{decode-field-one as field-decode-field-one}
 pub use Rattle.field.proofs.Only.{step-from-one as field-step-from-one}
-pub use Rattle.field.proofs.Only.{skip-field-one as field-skip-field-one}
+pub use Rattle.skip.proofs.Only.{skip-field-one as field-skip-field-one}
 -- whole messages
 pub use Rattle.message.proofs.Only.{decide-one as message-decide-one}
 pub use Rattle.message.proofs.Only.{find-tag-one as message-find-tag-one}

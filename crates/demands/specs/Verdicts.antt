@@ -48,7 +48,8 @@ use Rattle.early.specs.Early.{Stop, Ends, Above, stop, only, earlyOf}
 use Rattle.early.specs.Early as early
 use Rattle.capgauze.specs.Gate.{gated, through}
 use Rattle.capgauze.specs.Varints.{varintRead, decodeVarint, decodeVarintCapped}
-use Rattle.capgauze.specs.Fields.{keyAnswer, decodeKey, valueAnswer, decodeValue, skipAnswer, skipField, stepAnswer, stepEntry, keyBytes, keyAtFront, keyAtEnd, keyLen}
+use Rattle.capgauze.specs.Keys.{keyAnswer, decodeKey, keyBytes, keyAtFront, keyAtEnd, keyLen}
+use Rattle.capgauze.specs.Fields.{valueAnswer, decodeValue, skipAnswer, skipField, stepAnswer, stepEntry}
 use Rattle.capgauze.specs.Stores.{Stored, roomFor, atFront, atEnd}
 use Rattle.capgauze.specs.Test.{moreOf, moreEntry}
 use Rattle.capgauze.specs.Messages.{readEntry, readPayload, pickedOf, picked, pickEntry, severalOf, severalEntry, earlyEntry}

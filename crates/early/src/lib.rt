@@ -19,7 +19,7 @@ enum Sight {
 fn look(s: &[u8], at: usize, last: u32, tag: u32) -> Sight
     ensures { λ r. ⌜ r ≡ sightAt tag (now (s .entry)) at last ⌝ }
 {
-    match field::decode_key(s, at, s.len(), last) {
+    match key::decode_key(s, at, s.len(), last) {
         KeyFound::Refused(r) => Sight::Refused(r),
         KeyFound::Got(k, next) => {
             let t = k.tag;
@@ -27,7 +27,7 @@ fn look(s: &[u8], at: usize, last: u32, tag: u32) -> Sight
             if tag < t {
                 return Sight::Above;
             }
-            match field::decode_value(s, next, s.len(), wire) {
+            match value::decode_value(s, next, s.len(), wire) {
                 ValueFound::Refused(r) => Sight::Refused(r),
                 ValueFound::Got(v, q) => Sight::Field(Field { tag: t, value: v }, q),
             }

@@ -171,7 +171,7 @@ fn known_four(s: &[u8], at: usize) -> u64
     requires { ⌜ at + 4 ≤ length (now s) ⌝ }
     ensures { λ r. ⌜ (r ≡ number (take 4 (drop at (now (s .entry))))) × (r < 2 ^ 32) ⌝ }
 {
-    field::four_bytes(s[at], s[at + 1], s[at + 2], s[at + 3])
+    value::four_bytes(s[at], s[at + 1], s[at + 2], s[at + 3])
 }
 
 // The last two words of a record, and the place after the value.

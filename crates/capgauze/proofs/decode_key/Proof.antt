@@ -1,7 +1,7 @@
 -- The gate, then the core; a refusal answers what was given.
 use mathlib.Core.Path.{_∙_, ap, sym}
 use Rattle.capgauze.specs.Gate.{through-shut, through-open}
-use Rattle.capgauze.specs.Fields.{keyAnswer, decodeKey}
+use Rattle.capgauze.specs.Keys.{keyAnswer, decodeKey}
 use borrow.Author.Needs.{needs}
 use Rattle.capgauze.proofs.decode_key.Statement.{statement}
 use Rattle.capgauze.proofs.decode_key.Tie as tie

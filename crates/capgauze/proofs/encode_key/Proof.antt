@@ -3,7 +3,7 @@ use mathlib.Core.Path.{_∙_, sym}
 use native.Mathlib.Omega.{arith}
 use Rattle.wire.specs.VarintLaws.{length-pos}
 use Rattle.capgauze.specs.Stores.{atFront, puts-none, puts-done, puts-front}
-use Rattle.capgauze.specs.Fields.{front-falls, front-order}
+use Rattle.capgauze.specs.Keys.{front-falls, front-order}
 use borrow.Author.Needs.{needs}
 use Rattle.capgauze.proofs.encode_key.Statement.{statement}
 use Rattle.capgauze.proofs.encode_key.Tie as tie

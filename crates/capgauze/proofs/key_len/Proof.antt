@@ -2,7 +2,7 @@
 use mathlib.Core.Path.{_∙_, ap, sym}
 use native.Mathlib.Omega.{arith}
 use Rattle.capgauze.specs.declared.Measured.the-variants.{Length}
-use Rattle.capgauze.specs.Fields.{len-falls, len-order}
+use Rattle.capgauze.specs.Keys.{len-falls, len-order}
 use borrow.Author.Needs.{needs}
 use Rattle.capgauze.proofs.key_len.Statement.{statement}
 use Rattle.capgauze.proofs.key_len.Tie as tie

@@ -4,7 +4,7 @@ use native.Mathlib.Omega.{arith}
 use Rattle.wire.specs.VarintLaws.{length-pos}
 use Rattle.place.specs.Place.{prepend-starts}
 use Rattle.capgauze.specs.Stores.{atEnd, puts-none, puts-done, puts-end}
-use Rattle.capgauze.specs.Fields.{end-falls, end-order}
+use Rattle.capgauze.specs.Keys.{end-falls, end-order}
 use borrow.Author.Needs.{needs}
 use Rattle.capgauze.proofs.prepend_key.Statement.{statement}
 use Rattle.capgauze.proofs.prepend_key.Tie as tie

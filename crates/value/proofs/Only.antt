@@ -1,0 +1,13 @@
+-- Any two outcomes that a contract of this crate allows are equal.
+use mathlib.Core.Path.{_∙_, sym}
+use Rattle.wire.specs.Only.{One}
+use Rattle.value.proofs.four_bytes.Kinds as four-bytes
+use Rattle.value.proofs.four_bytes.Reads as four-bytes-reads
+use Rattle.value.proofs.decode_value.Kinds as decode-value
+use Rattle.value.proofs.decode_value.Reads as decode-value-reads
+
+pub four-bytes-one : One 0 four-bytes.ps four-bytes.r four-bytes-reads.Post (λ κs r s. r)
+four-bytes-one κs a x y s t p q = p ∙ sym q
+
+pub decode-value-one : One 1 decode-value.ps decode-value.r decode-value-reads.Post (λ κs r s. r)
+decode-value-one κs a x y s t p q = p ∙ sym q
