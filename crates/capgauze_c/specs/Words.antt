@@ -3,11 +3,11 @@ use Prim.Native.Nat.{ℕ, zero, suc, _≤_}
 use mathlib.Core.Path.{_≡_, refl}
 use mathlib.Core.List.{List}
 use native.Mathlib.Omega.{arith}
-use Rattle.capgauze.specs.Told as told
-use Rattle.capgauze.specs.Told.{putTold, readTold, writtenTold, insertedTold}
+use Rattle.answer.specs.Told as told
+use Rattle.answer.specs.Told.{putTold, readTold, writtenTold, insertedTold}
 use Rattle.wire.specs.Writing.{Writing}
 use Rattle.wire.specs.Insertion.{Insertion}
-use Rattle.capgauze.specs.Stores.{Stored}
+use Rattle.answer.specs.Stores.{Stored}
 use Rattle.wire.specs.Numbers.{numberOf}
 use Rattle.wire.specs.declared.Refusal.the-variants.{BadRecord}
 use Rattle.wire.specs.declared.WireType.{WireType}

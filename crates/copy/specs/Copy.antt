@@ -26,9 +26,9 @@ use Rattle.wire.specs.declared.Read.{Read}
 use Rattle.wire.specs.declared.Read.the-variants as read
 use Rattle.wire.specs.declared.Written.the-variants.{At}
 use Rattle.message.specs.Into.{Outcome, outcome, readInto, into-refused, into-no-room, into-fits}
-use Rattle.capgauze.specs.Gate.{through-shut, gated-long}
-use Rattle.capgauze.specs.Messages.{readEntry, entry-open}
-use Rattle.capgauze.specs.Writers.{encodeMessage, prependMessage}
+use Rattle.answer.specs.Gate.{through-shut, gated-long}
+use Rattle.entry_message.specs.Messages.{readEntry, entry-open}
+use Rattle.entry_write.specs.Writers.{encodeMessage, prependMessage}
 use Rattle.copy.specs.declared.Copied.{Copied}
 use Rattle.copy.specs.declared.Copied.the-variants as copiedAs
 use lib.Seq.{take-length}

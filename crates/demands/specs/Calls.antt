@@ -7,8 +7,8 @@ use borrow.Fn.Kinds.{PK, RK, Out, Dens, resT, endedOf}
 use denote.Triple.Clauses.{AtExit}
 use denote.Ref.{now}
 use Rattle.wire.specs.declared.Read.{Read}
-use Rattle.capgauze.proofs.read_message.Kinds as kinds
-use Rattle.capgauze.proofs.read_message.Reads as reads
+use Rattle.entry_message.proofs.read_message.Kinds as kinds
+use Rattle.entry_message.proofs.read_message.Reads as reads
 
 -- of a function with l lifetimes, parameters ps and result r, whose contract is post: what is said of the arguments, the result and what is left is so of every
 -- outcome

@@ -45,33 +45,33 @@ pub use Rattle.insertion.proofs.Only.{insert-record-one as insertion-insert-rec
 -- a tag looked for from the front
 pub use Rattle.early.proofs.Only.{find-early-one as early-find-early-one}
 -- the face
-pub use Rattle.capgauze.proofs.Only.{encoded-len-varint-one}
-pub use Rattle.capgauze.proofs.Only.{encode-varint-one}
-pub use Rattle.capgauze.proofs.Only.{prepend-varint-one}
-pub use Rattle.capgauze.proofs.Only.{decode-varint-one}
-pub use Rattle.capgauze.proofs.Only.{decode-varint-capped-one}
-pub use Rattle.capgauze.proofs.Only.{i64-to-unsigned-one}
-pub use Rattle.capgauze.proofs.Only.{u64-to-signed-one}
-pub use Rattle.capgauze.proofs.Only.{wire-type-of-one}
-pub use Rattle.capgauze.proofs.Only.{wire-number-one}
-pub use Rattle.capgauze.proofs.Only.{decode-key-one}
-pub use Rattle.capgauze.proofs.Only.{encode-key-one}
-pub use Rattle.capgauze.proofs.Only.{prepend-key-one}
-pub use Rattle.capgauze.proofs.Only.{key-len-one}
-pub use Rattle.capgauze.proofs.Only.{decode-value-one}
-pub use Rattle.capgauze.proofs.Only.{skip-field-one}
-pub use Rattle.capgauze.proofs.Only.{step-at-one}
-pub use Rattle.capgauze.proofs.Only.{more-at-one}
-pub use Rattle.capgauze.proofs.Only.{read-message-one}
-pub use Rattle.capgauze.proofs.Only.{payload-of-one}
-pub use Rattle.capgauze.proofs.Only.{read-payload-one}
-pub use Rattle.capgauze.proofs.Only.{pick-at-one}
-pub use Rattle.capgauze.proofs.Only.{pick-one}
-pub use Rattle.capgauze.proofs.Only.{pick-early-one}
-pub use Rattle.capgauze.proofs.Only.{encode-message-one}
-pub use Rattle.capgauze.proofs.Only.{prepend-message-one}
-pub use Rattle.capgauze.proofs.Only.{encoded-len-message-one}
-pub use Rattle.capgauze.proofs.Only.{insert-one}
+pub use Rattle.entry_varint.proofs.Only.{encoded-len-varint-one}
+pub use Rattle.entry_varint.proofs.Only.{encode-varint-one}
+pub use Rattle.entry_varint.proofs.Only.{prepend-varint-one}
+pub use Rattle.entry_varint.proofs.Only.{decode-varint-one}
+pub use Rattle.entry_varint.proofs.Only.{decode-varint-capped-one}
+pub use Rattle.entry_varint.proofs.Only.{i64-to-unsigned-one}
+pub use Rattle.entry_varint.proofs.Only.{u64-to-signed-one}
+pub use Rattle.entry_key.proofs.Only.{wire-type-of-one}
+pub use Rattle.entry_key.proofs.Only.{wire-number-one}
+pub use Rattle.entry_key.proofs.Only.{decode-key-one}
+pub use Rattle.entry_key.proofs.Only.{encode-key-one}
+pub use Rattle.entry_key.proofs.Only.{prepend-key-one}
+pub use Rattle.entry_key.proofs.Only.{key-len-one}
+pub use Rattle.entry_field.proofs.Only.{decode-value-one}
+pub use Rattle.entry_field.proofs.Only.{skip-field-one}
+pub use Rattle.entry_field.proofs.Only.{step-at-one}
+pub use Rattle.entry_field.proofs.Only.{more-at-one}
+pub use Rattle.entry_message.proofs.Only.{read-message-one}
+pub use Rattle.entry_message.proofs.Only.{payload-of-one}
+pub use Rattle.entry_message.proofs.Only.{read-payload-one}
+pub use Rattle.entry_message.proofs.Only.{pick-at-one}
+pub use Rattle.entry_message.proofs.Only.{pick-one}
+pub use Rattle.entry_message.proofs.Only.{pick-early-one}
+pub use Rattle.entry_write.proofs.Only.{encode-message-one}
+pub use Rattle.entry_write.proofs.Only.{prepend-message-one}
+pub use Rattle.entry_write.proofs.Only.{encoded-len-message-one}
+pub use Rattle.entry_write.proofs.Only.{insert-one}
 -- the reader that holds a message; of its first three, over the predicates that their contracts cite
 pub use Rattle.reader.proofs.Only.{make-one as reader-make-one}
 pub use Rattle.reader.proofs.Only.{has-more-one as reader-has-more-one}

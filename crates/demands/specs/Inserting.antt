@@ -26,9 +26,9 @@ use Rattle.wire.specs.declared.Field.{Field}
 use Rattle.wire.specs.declared.Record.{Record}
 use Rattle.wire.specs.declared.Inserted.the-variants.{Count}
 use Rattle.place.specs.Place.{length-part}
-use Rattle.capgauze.specs.Told.{insertedTold}
-use Rattle.capgauze.proofs.insert.Kinds as insert
-use Rattle.capgauze.proofs.insert.Reads as insert-reads
+use Rattle.answer.specs.Told.{insertedTold}
+use Rattle.entry_write.proofs.insert.Kinds as insert
+use Rattle.entry_write.proofs.insert.Reads as insert-reads
 
 -- ---- what a run of stores leaves: before it, and in it
 

@@ -20,8 +20,8 @@ use Rattle.wire.specs.declared.Field.{Field}
 use Rattle.wire.specs.declared.Read.{Read}
 use Rattle.wire.specs.declared.Read.the-variants.{Accepted, Refused}
 use Rattle.message.specs.Into.{Outcome, outcome, readInto, into-refused, into-fits}
-use Rattle.capgauze.specs.Told.{readTold}
-use Rattle.capgauze.specs.Messages.{entry-open}
+use Rattle.answer.specs.Told.{readTold}
+use Rattle.entry_message.specs.Messages.{entry-open}
 use Rattle.demands.specs.Calls.{Call, message, start, end, table, answer, left}
 
 -- a list of items that is good and written as the message m

@@ -18,11 +18,11 @@ use Rattle.wire.specs.declared.Field.{Field}
 use Rattle.wire.specs.declared.Read.{Read}
 use Rattle.wire.specs.declared.Read.the-variants.{Accepted, Refused}
 use Rattle.message.specs.Into.{Outcome, outcome, readInto, into-refused, into-fits, into-no-room}
-use Rattle.capgauze.specs.declared.Gated.{Gated}
-use Rattle.capgauze.specs.declared.Gated.the-variants.{Open, Shut}
-use Rattle.capgauze.specs.Gate.{gated, through}
-use Rattle.capgauze.specs.Told.{readTold}
-use Rattle.capgauze.specs.Messages.{readEntry}
+use Rattle.answer.specs.declared.Gated.{Gated}
+use Rattle.answer.specs.declared.Gated.the-variants.{Open, Shut}
+use Rattle.answer.specs.Gate.{gated, through}
+use Rattle.answer.specs.Told.{readTold}
+use Rattle.entry_message.specs.Messages.{readEntry}
 use Rattle.demands.specs.Calls.{Call, message, start, end, table, answer, left}
 
 -- what an answer r leaves of a table t

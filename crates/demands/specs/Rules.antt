@@ -28,7 +28,7 @@ use Rattle.wire.specs.declared.Record.{Record}
 use Rattle.message.specs.Payload.{payload}
 use Rattle.message.specs.Tags.{ofTag}
 use Rattle.early.specs.Early as early
-use Rattle.capgauze.specs.Keys.{keyBytes}
+use Rattle.entry_key.specs.Keys.{keyBytes}
 use Rattle.demands.specs.Order.{Rule, when}
 
 -- ---- ORDER R, of the readers: 4 for a slice above the limit; 8 for a place or an end above the slice's length; then 1, 2, 3 as met, and 5

@@ -46,81 +46,81 @@ use Rattle.message.specs.Tags.{ofTag, atNumber, sought}
 use Rattle.message.specs.Tags as tags
 use Rattle.early.specs.Early.{Stop, Ends, Above, stop, only, earlyOf}
 use Rattle.early.specs.Early as early
-use Rattle.capgauze.specs.Gate.{gated, through}
-use Rattle.capgauze.specs.Varints.{varintRead, decodeVarint, decodeVarintCapped}
-use Rattle.capgauze.specs.Keys.{keyAnswer, decodeKey, keyBytes, keyAtFront, keyAtEnd, keyLen}
-use Rattle.capgauze.specs.Fields.{valueAnswer, decodeValue, skipAnswer, skipField, stepAnswer, stepEntry}
-use Rattle.capgauze.specs.Stores.{Stored, roomFor, atFront, atEnd}
-use Rattle.capgauze.specs.Test.{moreOf, moreEntry}
-use Rattle.capgauze.specs.Messages.{readEntry, readPayload, pickedOf, picked, pickEntry, severalOf, severalEntry, earlyEntry}
-use Rattle.capgauze.specs.Told.{putTold, varintTold, measuredTold, keyTold, valueTold, skippedTold, stepTold, readTold, pickedTold, severalTold, earlyTold, writtenTold, insertedTold}
-use Rattle.capgauze.specs.declared.Put.the-variants as put
-use Rattle.capgauze.specs.declared.VarintRead.{VarintRead}
-use Rattle.capgauze.specs.declared.VarintRead.the-variants as varintAnswer
-use Rattle.capgauze.specs.declared.KeyRead.{KeyRead}
-use Rattle.capgauze.specs.declared.KeyRead.the-variants as keyRead
-use Rattle.capgauze.specs.declared.ValueRead.{ValueRead}
-use Rattle.capgauze.specs.declared.ValueRead.the-variants as valueRead
-use Rattle.capgauze.specs.declared.Skipped.{Skipped}
-use Rattle.capgauze.specs.declared.Skipped.the-variants as skipped
-use Rattle.capgauze.specs.declared.Step.{Step}
-use Rattle.capgauze.specs.declared.Step.the-variants as step
-use Rattle.capgauze.specs.declared.More.{More}
-use Rattle.capgauze.specs.declared.More.the-variants as more
-use Rattle.capgauze.specs.declared.Measured.{Measured}
-use Rattle.capgauze.specs.declared.Measured.the-variants as measuredAs
-use Rattle.capgauze.specs.declared.Picked.{Picked}
-use Rattle.capgauze.specs.declared.Picked.the-variants as pickedAs
-use Rattle.capgauze.specs.declared.Several.{Several}
-use Rattle.capgauze.specs.declared.Several.the-variants as severalAs
+use Rattle.answer.specs.Gate.{gated, through}
+use Rattle.entry_varint.specs.Varints.{varintRead, decodeVarint, decodeVarintCapped}
+use Rattle.entry_key.specs.Keys.{keyAnswer, decodeKey, keyBytes, keyAtFront, keyAtEnd, keyLen}
+use Rattle.entry_field.specs.Fields.{valueAnswer, decodeValue, skipAnswer, skipField, stepAnswer, stepEntry}
+use Rattle.answer.specs.Stores.{Stored, roomFor, atFront, atEnd}
+use Rattle.entry_field.specs.Test.{moreOf, moreEntry}
+use Rattle.entry_message.specs.Messages.{readEntry, readPayload, pickedOf, picked, pickEntry, severalOf, severalEntry, earlyEntry}
+use Rattle.answer.specs.Told.{putTold, varintTold, measuredTold, keyTold, valueTold, skippedTold, stepTold, readTold, pickedTold, severalTold, earlyTold, writtenTold, insertedTold}
+use Rattle.answer.specs.declared.Put.the-variants as put
+use Rattle.answer.specs.declared.VarintRead.{VarintRead}
+use Rattle.answer.specs.declared.VarintRead.the-variants as varintAnswer
+use Rattle.answer.specs.declared.KeyRead.{KeyRead}
+use Rattle.answer.specs.declared.KeyRead.the-variants as keyRead
+use Rattle.answer.specs.declared.ValueRead.{ValueRead}
+use Rattle.answer.specs.declared.ValueRead.the-variants as valueRead
+use Rattle.answer.specs.declared.Skipped.{Skipped}
+use Rattle.answer.specs.declared.Skipped.the-variants as skipped
+use Rattle.answer.specs.declared.Step.{Step}
+use Rattle.answer.specs.declared.Step.the-variants as step
+use Rattle.answer.specs.declared.More.{More}
+use Rattle.answer.specs.declared.More.the-variants as more
+use Rattle.answer.specs.declared.Measured.{Measured}
+use Rattle.answer.specs.declared.Measured.the-variants as measuredAs
+use Rattle.answer.specs.declared.Picked.{Picked}
+use Rattle.answer.specs.declared.Picked.the-variants as pickedAs
+use Rattle.answer.specs.declared.Several.{Several}
+use Rattle.answer.specs.declared.Several.the-variants as severalAs
 use Rattle.demands.specs.Order.{Rule, when, firstOf, Numbered, orElse, refused-first, ordered}
 use Rattle.demands.specs.Rules.{orderR, varintRules, cappedRules, keyRules, valueRules, stepRules, skipRules, messageRules, tableRules, roomRules, outputRule, newRules}
 use Rattle.demands.specs.Rules.{decodeVarintOrder, decodeVarintCappedOrder, decodeKeyOrder, decodeValueOrder, skipFieldOrder, stepAtOrder, moreAtOrder, readMessageOrder, readPayloadOrder, fieldsIn, earlyRules, earlyRead, repeatedRules, pickOrder, pickAtOrder, pickEarlyOrder}
 use Rattle.demands.specs.Rules.{putVarintOrder, putKeyOrder, keyLenOrder, measureOrder, writeOrder, insertOrder}
 use Rattle.demands.specs.RulesLaws.{above, behind, varintNumber, keyNumber, valueNumber, stepNumber, messageNumber, reachedNumber, verdictNumber}
 use Rattle.demands.specs.RulesLaws.{varint-told, capped-told, key-told, value-told, step-told, message-told, fields-read, stopNumber, Seen, stop-told, stop-seen, skip-told, order-t}
-use Rattle.capgauze.proofs.decode_varint.Kinds as decode-varint
-use Rattle.capgauze.proofs.decode_varint.Reads as decode-varint-reads
-use Rattle.capgauze.proofs.decode_varint_capped.Kinds as decode-varint-capped
-use Rattle.capgauze.proofs.decode_varint_capped.Reads as decode-varint-capped-reads
-use Rattle.capgauze.proofs.decode_key.Kinds as decode-key
-use Rattle.capgauze.proofs.decode_key.Reads as decode-key-reads
-use Rattle.capgauze.proofs.decode_value.Kinds as decode-value
-use Rattle.capgauze.proofs.decode_value.Reads as decode-value-reads
-use Rattle.capgauze.proofs.skip_field.Kinds as skip-field
-use Rattle.capgauze.proofs.skip_field.Reads as skip-field-reads
-use Rattle.capgauze.proofs.step_at.Kinds as step-at
-use Rattle.capgauze.proofs.step_at.Reads as step-at-reads
-use Rattle.capgauze.proofs.more_at.Kinds as more-at
-use Rattle.capgauze.proofs.more_at.Reads as more-at-reads
-use Rattle.capgauze.proofs.read_message.Kinds as read-message
-use Rattle.capgauze.proofs.read_message.Reads as read-message-reads
-use Rattle.capgauze.proofs.read_payload.Kinds as read-payload
-use Rattle.capgauze.proofs.read_payload.Reads as read-payload-reads
-use Rattle.capgauze.proofs.pick_at.Kinds as pick-at
-use Rattle.capgauze.proofs.pick_at.Reads as pick-at-reads
-use Rattle.capgauze.proofs.pick_early.Kinds as pick-early
-use Rattle.capgauze.proofs.pick_early.Reads as pick-early-reads
-use Rattle.capgauze.proofs.pick.Kinds as pick
-use Rattle.capgauze.proofs.pick.Reads as pick-reads
-use Rattle.capgauze.proofs.encode_varint.Kinds as encode-varint
-use Rattle.capgauze.proofs.encode_varint.Reads as encode-varint-reads
-use Rattle.capgauze.proofs.prepend_varint.Kinds as prepend-varint
-use Rattle.capgauze.proofs.prepend_varint.Reads as prepend-varint-reads
-use Rattle.capgauze.proofs.encode_key.Kinds as encode-key
-use Rattle.capgauze.proofs.encode_key.Reads as encode-key-reads
-use Rattle.capgauze.proofs.prepend_key.Kinds as prepend-key
-use Rattle.capgauze.proofs.prepend_key.Reads as prepend-key-reads
-use Rattle.capgauze.proofs.key_len.Kinds as key-len
-use Rattle.capgauze.proofs.key_len.Reads as key-len-reads
-use Rattle.capgauze.proofs.encoded_len_message.Kinds as encoded-len-message
-use Rattle.capgauze.proofs.encoded_len_message.Reads as encoded-len-message-reads
-use Rattle.capgauze.proofs.encode_message.Kinds as encode-message
-use Rattle.capgauze.proofs.encode_message.Reads as encode-message-reads
-use Rattle.capgauze.proofs.prepend_message.Kinds as prepend-message
-use Rattle.capgauze.proofs.prepend_message.Reads as prepend-message-reads
-use Rattle.capgauze.proofs.insert.Kinds as insert
-use Rattle.capgauze.proofs.insert.Reads as insert-reads
+use Rattle.entry_varint.proofs.decode_varint.Kinds as decode-varint
+use Rattle.entry_varint.proofs.decode_varint.Reads as decode-varint-reads
+use Rattle.entry_varint.proofs.decode_varint_capped.Kinds as decode-varint-capped
+use Rattle.entry_varint.proofs.decode_varint_capped.Reads as decode-varint-capped-reads
+use Rattle.entry_key.proofs.decode_key.Kinds as decode-key
+use Rattle.entry_key.proofs.decode_key.Reads as decode-key-reads
+use Rattle.entry_field.proofs.decode_value.Kinds as decode-value
+use Rattle.entry_field.proofs.decode_value.Reads as decode-value-reads
+use Rattle.entry_field.proofs.skip_field.Kinds as skip-field
+use Rattle.entry_field.proofs.skip_field.Reads as skip-field-reads
+use Rattle.entry_field.proofs.step_at.Kinds as step-at
+use Rattle.entry_field.proofs.step_at.Reads as step-at-reads
+use Rattle.entry_field.proofs.more_at.Kinds as more-at
+use Rattle.entry_field.proofs.more_at.Reads as more-at-reads
+use Rattle.entry_message.proofs.read_message.Kinds as read-message
+use Rattle.entry_message.proofs.read_message.Reads as read-message-reads
+use Rattle.entry_message.proofs.read_payload.Kinds as read-payload
+use Rattle.entry_message.proofs.read_payload.Reads as read-payload-reads
+use Rattle.entry_message.proofs.pick_at.Kinds as pick-at
+use Rattle.entry_message.proofs.pick_at.Reads as pick-at-reads
+use Rattle.entry_message.proofs.pick_early.Kinds as pick-early
+use Rattle.entry_message.proofs.pick_early.Reads as pick-early-reads
+use Rattle.entry_message.proofs.pick.Kinds as pick
+use Rattle.entry_message.proofs.pick.Reads as pick-reads
+use Rattle.entry_varint.proofs.encode_varint.Kinds as encode-varint
+use Rattle.entry_varint.proofs.encode_varint.Reads as encode-varint-reads
+use Rattle.entry_varint.proofs.prepend_varint.Kinds as prepend-varint
+use Rattle.entry_varint.proofs.prepend_varint.Reads as prepend-varint-reads
+use Rattle.entry_key.proofs.encode_key.Kinds as encode-key
+use Rattle.entry_key.proofs.encode_key.Reads as encode-key-reads
+use Rattle.entry_key.proofs.prepend_key.Kinds as prepend-key
+use Rattle.entry_key.proofs.prepend_key.Reads as prepend-key-reads
+use Rattle.entry_key.proofs.key_len.Kinds as key-len
+use Rattle.entry_key.proofs.key_len.Reads as key-len-reads
+use Rattle.entry_write.proofs.encoded_len_message.Kinds as encoded-len-message
+use Rattle.entry_write.proofs.encoded_len_message.Reads as encoded-len-message-reads
+use Rattle.entry_write.proofs.encode_message.Kinds as encode-message
+use Rattle.entry_write.proofs.encode_message.Reads as encode-message-reads
+use Rattle.entry_write.proofs.prepend_message.Kinds as prepend-message
+use Rattle.entry_write.proofs.prepend_message.Reads as prepend-message-reads
+use Rattle.entry_write.proofs.insert.Kinds as insert
+use Rattle.entry_write.proofs.insert.Reads as insert-reads
 
 -- ---- ORDER R, of every reader: the gate, then what is met
 

@@ -30,12 +30,12 @@ use Rattle.wire.specs.declared.Read.{Read}
 use Rattle.wire.specs.declared.Written.{Written}
 use Rattle.wire.specs.declared.Written.the-variants.{At}
 use Rattle.message.specs.Into.{Outcome, outcome, readInto, into-refused, into-fits}
-use Rattle.capgauze.specs.Told.{readTold, writtenTold}
-use Rattle.capgauze.specs.Messages.{entry-open}
-use Rattle.capgauze.proofs.encode_message.Kinds as encode
-use Rattle.capgauze.proofs.encode_message.Reads as encode-reads
-use Rattle.capgauze.proofs.prepend_message.Kinds as prepend
-use Rattle.capgauze.proofs.prepend_message.Reads as prepend-reads
+use Rattle.answer.specs.Told.{readTold, writtenTold}
+use Rattle.entry_message.specs.Messages.{entry-open}
+use Rattle.entry_write.proofs.encode_message.Kinds as encode
+use Rattle.entry_write.proofs.encode_message.Reads as encode-reads
+use Rattle.entry_write.proofs.prepend_message.Kinds as prepend
+use Rattle.entry_write.proofs.prepend_message.Reads as prepend-reads
 use Rattle.demands.specs.Calls.{Call, message, start, end, table, answer, left}
 use Rattle.demands.specs.Reading.{Whole, to-meant}
 

@@ -22,7 +22,7 @@ use Rattle.hex.specs.Frame.{Framed, frameOf}
 use Rattle.hex.specs.Faults.{half-frame}
 use Rattle.hex.specs.declared.Frame.{Frame}
 use Rattle.hex.specs.declared.Frame.the-variants.{Bytes}
-use Rattle.capgauze.specs.Messages.{readEntry, entry-open}
+use Rattle.entry_message.specs.Messages.{readEntry, entry-open}
 use Rattle.frames.specs.Text.{told}
 use Rattle.frames.specs.Room.{sized, told-none}
 use Rattle.frames.specs.Print.{frameRoom, answerText, outcomeText, Roomy, Closed, Framable, Messaged, shows, framePrinting, printFrame, print-frame}

@@ -19,7 +19,7 @@ use Rattle.wire.specs.declared.Field.{Field}
 use Rattle.wire.specs.declared.Read.the-variants.{Refused}
 use Rattle.place.specs.Place.{put-front}
 use Rattle.message.specs.Into.{readInto, into-refused, into-no-room, into-fits}
-use Rattle.capgauze.specs.Messages.{readEntry, entry-open}
+use Rattle.entry_message.specs.Messages.{readEntry, entry-open}
 use Rattle.lines.specs.LineLaws.{Keeps, keeps-whole, keeps-long}
 use Rattle.hex.specs.Frame.{Decoded, Decodes, Fails, decoded, lineLimit, framed, frameOf, above-limit, fitting}
 use Rattle.hex.specs.Faults.{half-frame, decoded-half}

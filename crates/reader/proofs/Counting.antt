@@ -13,12 +13,12 @@ use Rattle.wire.specs.declared.Field.{Field}
 use Rattle.wire.specs.declared.Stepped.{Stepped}
 use Rattle.wire.specs.declared.Stepped.the-variants as stepped
 use Rattle.message.proofs.Walk.{Walk, walk-start, walk-step, walk-steps-end, walk-step-refused}
-use Rattle.capgauze.specs.Gate.{gated, through, through-shut, through-open, gated-open, gated-opens}
-use Rattle.capgauze.specs.Fields.{stepAnswer, stepEntry}
-use Rattle.capgauze.specs.declared.Gated.{Gated}
-use Rattle.capgauze.specs.declared.Gated.the-variants.{Open, Shut}
-use Rattle.capgauze.specs.declared.Step.{Step}
-use Rattle.capgauze.specs.declared.Step.the-variants as step
+use Rattle.answer.specs.Gate.{gated, through, through-shut, through-open, gated-open, gated-opens}
+use Rattle.entry_field.specs.Fields.{stepAnswer, stepEntry}
+use Rattle.answer.specs.declared.Gated.{Gated}
+use Rattle.answer.specs.declared.Gated.the-variants.{Open, Shut}
+use Rattle.answer.specs.declared.Step.{Step}
+use Rattle.answer.specs.declared.Step.the-variants as step
 use Rattle.reader.specs.Counting.{counted, countEntry}
 use Rattle.reader.specs.declared.Counted.the-variants as countedAs
 

@@ -3,8 +3,8 @@ use Prim.Native.Nat.{ℕ}
 use mathlib.Core.Path.{_≡_, _∙_, sym}
 use mathlib.Core.List.{List}
 use denote.Ref.{RefT}
-use Rattle.capgauze.specs.declared.More.{More}
-use Rattle.capgauze.specs.declared.Step.{Step}
+use Rattle.answer.specs.declared.More.{More}
+use Rattle.answer.specs.declared.Step.{Step}
 use Rattle.wire.specs.Only.{One}
 use Rattle.reader.specs.Held.{Made, Tested, Stepped}
 use Rattle.reader.specs.declared.Reader.{Reader}

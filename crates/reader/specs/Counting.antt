@@ -11,10 +11,10 @@ use Rattle.wire.specs.declared.Refusal.the-variants.{NoRoom}
 use Rattle.wire.specs.declared.Field.{Field}
 use Rattle.wire.specs.declared.Read.the-variants.{Accepted, Refused}
 use Rattle.message.specs.Into.{Outcome, into-fits, into-no-room}
-use Rattle.capgauze.specs.Gate.{gated, through, through-open}
-use Rattle.capgauze.specs.Messages.{readEntry}
-use Rattle.capgauze.specs.declared.Gated.{Gated}
-use Rattle.capgauze.specs.declared.Gated.the-variants.{Open, Shut}
+use Rattle.answer.specs.Gate.{gated, through, through-open}
+use Rattle.entry_message.specs.Messages.{readEntry}
+use Rattle.answer.specs.declared.Gated.{Gated}
+use Rattle.answer.specs.declared.Gated.the-variants.{Open, Shut}
 use Rattle.reader.specs.declared.Counted.{Counted}
 use Rattle.reader.specs.declared.Counted.the-variants as countedAs
 

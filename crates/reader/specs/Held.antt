@@ -4,12 +4,12 @@ use mathlib.Core.Path.{_≡_, sym, _∙_}
 use mathlib.Core.List.{List}
 use denote.Ref.{RefT, now}
 use Rattle.wire.specs.declared.Refusal.{Refusal}
-use Rattle.capgauze.specs.Fields.{stepEntry}
-use Rattle.capgauze.specs.Test.{moreEntry, no-more-end, end-no-more, refused-step}
-use Rattle.capgauze.specs.declared.More.{More}
-use Rattle.capgauze.specs.declared.More.the-variants as more
-use Rattle.capgauze.specs.declared.Step.{Step}
-use Rattle.capgauze.specs.declared.Step.the-variants as step
+use Rattle.entry_field.specs.Fields.{stepEntry}
+use Rattle.entry_field.specs.Test.{moreEntry, no-more-end, end-no-more, refused-step}
+use Rattle.answer.specs.declared.More.{More}
+use Rattle.answer.specs.declared.More.the-variants as more
+use Rattle.answer.specs.declared.Step.{Step}
+use Rattle.answer.specs.declared.Step.the-variants as step
 use Rattle.reader.specs.declared.Reader.{Reader}
 
 -- made of the message itself, a place, an end and a last tag

@@ -4,7 +4,7 @@ use denote.Ref.{now}
 use native.Mathlib.Omega.{arith}
 use Rattle.wire.specs.Places.{shown}
 use Rattle.wire.specs.Table.{fieldIn}
-use Rattle.capgauze.specs.Messages.{part-bytes}
+use Rattle.entry_message.specs.Messages.{part-bytes}
 use Rattle.frames.specs.Text.{bytesText, valueText}
 use Rattle.frames.proofs.Fields.{text-number, text-payload, text-four, text-eight, payload-inside}
 use borrow.Author.Needs.{needs}

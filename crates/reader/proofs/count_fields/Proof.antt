@@ -2,8 +2,8 @@
 use mathlib.Core.Path.{_≡_, sym, _∙_}
 use native.Mathlib.Omega.{arith}
 use Prim.Native.Nat.{_-_}
-use Rattle.capgauze.specs.Fields.{stepEntry}
-use Rattle.capgauze.specs.declared.Step.the-variants.{Field}
+use Rattle.entry_field.specs.Fields.{stepEntry}
+use Rattle.answer.specs.declared.Step.the-variants.{Field}
 use Rattle.reader.proofs.Counting.{Counting, start, moves, more, ends, refuses}
 use borrow.Author.Needs.{needs}
 use Rattle.reader.proofs.count_fields.Statement.{statement}

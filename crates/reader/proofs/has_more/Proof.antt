@@ -35,14 +35,14 @@ use denote.Triple.Table.{entered, cited}
 use denote.Triple.Walked.{says, Stays, stay-none, walkOf, goes-none, Walks, ends-at, walked, walk-meets}
 use denote.Exit.{yes}
 use denote.Triple.Clauses.{ensured, lasts}
-use Rattle.capgauze.specs.Test.{moreEntry}
-use Rattle.capgauze.specs.declared.More.{More}
-use Rattle.capgauze.proofs.More as S
-use Rattle.capgauze.proofs.More.Laws as S′
-use Rattle.capgauze.proofs.more_at as callee
-use Rattle.capgauze.proofs.more_at.Symbol as callee-def
-use Rattle.capgauze.proofs.more_at.Symbol.{name as #callee}
-use Rattle.capgauze.proofs.more_at.Met as callee-thm
+use Rattle.entry_field.specs.Test.{moreEntry}
+use Rattle.answer.specs.declared.More.{More}
+use Rattle.answer.proofs.More as S
+use Rattle.answer.proofs.More.Laws as S′
+use Rattle.entry_field.proofs.more_at as callee
+use Rattle.entry_field.proofs.more_at.Symbol as callee-def
+use Rattle.entry_field.proofs.more_at.Symbol.{name as #callee}
+use Rattle.entry_field.proofs.more_at.Met as callee-thm
 use Rattle.reader.specs.declared.Reader.{Reader}
 use Rattle.reader.proofs.Held.{row, machine, Fitting, α, slice, held, apart}
 use Rattle.reader.proofs.Reader as T

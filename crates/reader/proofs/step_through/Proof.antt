@@ -34,10 +34,10 @@ use denote.Triple.Table.{entered, cited}
 use denote.Triple.Walked.{says, Stays, stay-none, stay-none-slice, walkOf, goes-none, goes-none-slice, Walks, ends-at, walked, walk-meets}
 use denote.Exit.{yes}
 use denote.Triple.Clauses.{ensured, lasts}
-use Rattle.capgauze.specs.Fields.{stepEntry}
-use Rattle.capgauze.specs.declared.Step.{Step}
-use Rattle.capgauze.proofs.Step as S
-use Rattle.capgauze.proofs.Step.Laws as S′
+use Rattle.entry_field.specs.Fields.{stepEntry}
+use Rattle.answer.specs.declared.Step.{Step}
+use Rattle.answer.proofs.Step as S
+use Rattle.answer.proofs.Step.Laws as S′
 use Rattle.reader.specs.Held.{Made, Stepped}
 use Rattle.reader.specs.declared.Reader.{Reader}
 use Rattle.reader.proofs.Held.{row, machine, Fitting, slice, numbers, both, fit}

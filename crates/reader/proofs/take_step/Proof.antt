@@ -35,14 +35,14 @@ use denote.Triple.Table.{entered, cited}
 use denote.Triple.Walked.{says, Stays, stay-none, walkOf, goes-none, Walks, ends-at, walked, walk-meets}
 use denote.Exit.{yes}
 use denote.Triple.Clauses.{ensured, lasts}
-use Rattle.capgauze.specs.Fields.{stepEntry}
-use Rattle.capgauze.specs.declared.Step.{Step}
-use Rattle.capgauze.proofs.Step as S
-use Rattle.capgauze.proofs.Step.Laws as S′
-use Rattle.capgauze.proofs.step_at as callee
-use Rattle.capgauze.proofs.step_at.Symbol as callee-def
-use Rattle.capgauze.proofs.step_at.Symbol.{name as #callee}
-use Rattle.capgauze.proofs.step_at.Met as callee-thm
+use Rattle.entry_field.specs.Fields.{stepEntry}
+use Rattle.answer.specs.declared.Step.{Step}
+use Rattle.answer.proofs.Step as S
+use Rattle.answer.proofs.Step.Laws as S′
+use Rattle.entry_field.proofs.step_at as callee
+use Rattle.entry_field.proofs.step_at.Symbol as callee-def
+use Rattle.entry_field.proofs.step_at.Symbol.{name as #callee}
+use Rattle.entry_field.proofs.step_at.Met as callee-thm
 use Rattle.reader.specs.declared.Reader.{Reader}
 use Rattle.reader.proofs.Held.{row, machine, Fitting, α, slice, held, apart}
 use Rattle.reader.proofs.Reader as T

@@ -1,0 +1,16 @@
+-- The core's answer, of the number as it was passed on.
+use mathlib.Core.Path.{_∙_, ap}
+use Rattle.wire.specs.Signed.{toUnsigned}
+use Rattle.varint.proofs.Signed.{again}
+use borrow.Author.Needs.{needs}
+use Rattle.entry_varint.proofs.i64_to_unsigned.Statement.{statement}
+use Rattle.entry_varint.proofs.i64_to_unsigned.Tie as tie
+
+i64-to-unsigned-requires : tie.Need-i64-to-unsigned-requires
+i64-to-unsigned-requires c κs = search needs
+
+returns : tie.Need-returns
+returns c = c .i64-to-unsigned .ensures ∙ ap toUnsigned (again _ (c .before .fits .v))
+
+pub i64-to-unsigned-spec : {M : Type 1} → statement M
+i64-to-unsigned-spec = tie.close (tie.spec i64-to-unsigned-requires returns)
