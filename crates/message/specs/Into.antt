@@ -1,8 +1,7 @@
--- What a whole message is found to be, and what reading it into a table answers and leaves.
+-- What reading a whole message into a table answers and leaves.
 use Prim.Native.Nat.{ℕ, _≤_, _<_}
-use mathlib.Core.Path.{_≡_, refl, ap, _∙_}
+use mathlib.Core.Path.{_≡_, ap, _∙_}
 use mathlib.Core.List.{List}
-use native.Mathlib.Omega.{arith}
 use borrow.Author.Tests.{le-leb, lt-leb}
 use lib.Dec.{leb}
 use lib.ListN.{length}
@@ -15,25 +14,6 @@ use Rattle.wire.specs.declared.Refusal.the-variants.{NoRoom}
 use Rattle.wire.specs.declared.Field.{Field}
 use Rattle.wire.specs.declared.Read.{Read}
 use Rattle.wire.specs.declared.Read.the-variants.{Accepted, Refused}
-use Rattle.message.specs.declared.Decided.{Decided}
-use Rattle.message.specs.declared.Decided.the-variants as decidedAs
-
--- ---- decided: the number of fields, or a refusal with its place
-
-abbrev pub decided : Message → Decided
-decided (Fields fs) = decidedAs.Fields (length fs)
-decided (reading.Refused r p) = decidedAs.Refused r p
-
--- what was decided says of the message
-pub decided-fields : (m : Message) (n : ℕ) → decided m ≡ decidedAs.Fields n → (fs : List Field) × (m ≡ Fields fs) × (length fs ≡ n)
-decided-fields (Fields fs) n e = (fs, refl, cc)
-decided-fields (reading.Refused r p) n e = let z : _≡_ {A = ℕ} 0 1 = cc in absurd (omega arith)
-
-pub decided-refused : (m : Message) (r : Refusal) (p : ℕ) → decided m ≡ decidedAs.Refused r p → m ≡ reading.Refused r p
-decided-refused (Fields fs) r p e = let z : _≡_ {A = ℕ} 0 1 = cc in absurd (omega arith)
-decided-refused (reading.Refused x q) r p e = let a : x ≡ r = cc in let b : q ≡ p = cc in cc
-
--- ---- read into a table
 
 -- what a message reader answers, and what it leaves in the table
 pub record Outcome : Type 0 where

@@ -1,3 +1,4 @@
+pub mod Deciding
 pub mod Into
 pub mod Tags
 pub mod Second

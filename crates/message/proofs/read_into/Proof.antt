@@ -9,7 +9,8 @@ use Rattle.wire.specs.Table.{filled}
 use Rattle.wire.specs.declared.Field.{Field}
 use Rattle.wire.specs.declared.Read.the-variants.{Accepted, Refused}
 use Rattle.wire.specs.declared.Refusal.the-variants.{NoRoom}
-use Rattle.message.specs.Into.{outcome, intoTable, readInto, into-refused, into-no-room, into-fits, decided-fields, decided-refused}
+use Rattle.message.specs.Deciding.{decided-fields, decided-refused}
+use Rattle.message.specs.Into.{outcome, intoTable, readInto, into-refused, into-no-room, into-fits}
 use Rattle.message.specs.Second.{Fits}
 use borrow.Author.Needs.{needs}
 use Rattle.message.proofs.read_into.Statement.{statement}
