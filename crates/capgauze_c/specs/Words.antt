@@ -12,8 +12,8 @@ use Rattle.wire.specs.Numbers.{numberOf}
 use Rattle.wire.specs.declared.Refusal.the-variants.{BadRecord}
 use Rattle.wire.specs.declared.WireType.{WireType}
 use Rattle.wire.specs.declared.WireType.the-variants as wireType
-use Rattle.message.specs.Into.{Outcome}
-use Rattle.message.specs.declared.Span.{Span}
+use Rattle.table.specs.Into.{Outcome}
+use Rattle.payload.specs.declared.Span.{Span}
 use Rattle.sounding.specs.Told as soundings
 use Rattle.sounding.specs.Told.{soundingTold}
 use Rattle.sounding.specs.Words as levels

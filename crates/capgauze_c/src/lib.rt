@@ -5,7 +5,7 @@ ghost use lib.ListN.{length as size};
 ghost use Rattle.wire.specs.Table.{kindWord, valueWord, lengthWord};
 ghost use Rattle.wire.specs.Varint.{encode};
 ghost use Rattle.wire.specs.Signed.{toUnsigned, toSigned};
-ghost use Rattle.message.specs.Payload.{spanOf};
+ghost use Rattle.payload.specs.Payload.{spanOf};
 ghost use Rattle.answer.specs.Told.{putTold, varintTold, readTold, pickedTold, severalTold, earlyTold, measuredTold, keyTold, valueTold, skippedTold, stepTold, writtenTold, insertedTold};
 ghost use Rattle.entry_write.specs.Writers.{encodeMessage, prependMessage, encodedLen, insertRecord};
 ghost use Rattle.entry_key.specs.Keys.{decodeKey, keyAtFront, keyAtEnd, keyLen};
@@ -680,7 +680,7 @@ pub extern "C" fn capgauze_payload_of(
         value: value,
         length: length,
     };
-    let p = message::payload_span(s.len(), r);
+    let p = payload::payload_span(s.len(), r);
     Part {
         start: p.start as u64,
         length: p.length as u64,

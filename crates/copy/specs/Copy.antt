@@ -25,7 +25,7 @@ use Rattle.wire.specs.declared.Field.{Field}
 use Rattle.wire.specs.declared.Read.{Read}
 use Rattle.wire.specs.declared.Read.the-variants as read
 use Rattle.wire.specs.declared.Written.the-variants.{At}
-use Rattle.message.specs.Into.{Outcome, outcome, readInto, into-refused, into-no-room, into-fits}
+use Rattle.table.specs.Into.{Outcome, outcome, readInto, into-refused, into-no-room, into-fits}
 use Rattle.answer.specs.Gate.{through-shut, gated-long}
 use Rattle.entry_message.specs.Messages.{readEntry, entry-open}
 use Rattle.entry_write.specs.Writers.{encodeMessage, prependMessage}

@@ -22,7 +22,7 @@ use Rattle.wire.specs.declared.Reached.{Reached}
 use Rattle.wire.specs.Table.{room}
 use Rattle.wire.specs.Cases.{Case, Encodes, Varint, Reads, Skips, Right, All, cases}
 use Rattle.wire.specs.Cases as paper
-use Rattle.message.specs.Into.{Outcome, readInto, into-refused, into-fits}
+use Rattle.table.specs.Into.{Outcome, readInto, into-refused, into-fits}
 use Rattle.answer.specs.Gate.{gated, through-open, gated-open}
 use Rattle.entry_varint.specs.Varints.{varintRead, decodeVarint}
 use Rattle.answer.specs.Stores.{Stored, roomFor, atFront, atEnd}

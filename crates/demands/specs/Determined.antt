@@ -9,12 +9,12 @@ pub use Rattle.place.proofs.Only.{put-part-one as place-put-part-one}
 pub use Rattle.place.proofs.Only.{put-fixed-one as place-put-fixed-one}
 -- varints
 pub use Rattle.varint.proofs.Only.{encoded-len-varint-one as varint-encoded-len-varint-one}
-pub use Rattle.varint.proofs.Only.{decode-varint-one as varint-decode-varint-one}
-pub use Rattle.varint.proofs.Only.{decode-varint-capped-one as varint-decode-varint-capped-one}
+pub use Rattle.varint_read.proofs.Only.{decode-varint-one as varint-decode-varint-one}
+pub use Rattle.varint_read.proofs.Only.{decode-varint-capped-one as varint-decode-varint-capped-one}
 pub use Rattle.varint.proofs.Only.{put-varint-one as varint-put-varint-one}
 pub use Rattle.varint.proofs.Only.{prepend-varint-one as varint-prepend-varint-one}
-pub use Rattle.varint.proofs.Only.{i64-to-unsigned-one as varint-i64-to-unsigned-one}
-pub use Rattle.varint.proofs.Only.{u64-to-signed-one as varint-u64-to-signed-one}
+pub use Rattle.signed.proofs.Only.{i64-to-unsigned-one as varint-i64-to-unsigned-one}
+pub use Rattle.signed.proofs.Only.{u64-to-signed-one as varint-u64-to-signed-one}
 -- one field
 pub use Rattle.key.proofs.Only.{wire-type-of-one as field-wire-type-of-one}
 pub use Rattle.key.proofs.Only.{wire-number-one as field-wire-number-one}
@@ -30,8 +30,8 @@ pub use Rattle.skip.proofs.Only.{skip-field-one as field-skip-field-one}
 -- whole messages
 pub use Rattle.message.proofs.Only.{decide-one as message-decide-one}
 pub use Rattle.message.proofs.Only.{find-tag-one as message-find-tag-one}
-pub use Rattle.message.proofs.Only.{read-into-one as message-read-into-one}
-pub use Rattle.message.proofs.Only.{payload-span-one as message-payload-span-one}
+pub use Rattle.table.proofs.Only.{read-into-one as message-read-into-one}
+pub use Rattle.payload.proofs.Only.{payload-span-one as message-payload-span-one}
 -- one record
 pub use Rattle.record.proofs.Only.{is-good-one as record-is-good-one}
 pub use Rattle.record.proofs.Only.{weigh-record-one as record-weigh-record-one}

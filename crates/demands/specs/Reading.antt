@@ -19,7 +19,7 @@ use Rattle.wire.specs.declared.Refusal.{Refusal}
 use Rattle.wire.specs.declared.Field.{Field}
 use Rattle.wire.specs.declared.Read.{Read}
 use Rattle.wire.specs.declared.Read.the-variants.{Accepted, Refused}
-use Rattle.message.specs.Into.{Outcome, outcome, readInto, into-refused, into-fits}
+use Rattle.table.specs.Into.{Outcome, outcome, readInto, into-refused, into-fits}
 use Rattle.answer.specs.Told.{readTold}
 use Rattle.entry_message.specs.Messages.{entry-open}
 use Rattle.demands.specs.Calls.{Call, message, start, end, table, answer, left}

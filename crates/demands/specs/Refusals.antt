@@ -17,7 +17,7 @@ use Rattle.wire.specs.declared.Refusal.{Refusal}
 use Rattle.wire.specs.declared.Field.{Field}
 use Rattle.wire.specs.declared.Read.{Read}
 use Rattle.wire.specs.declared.Read.the-variants.{Accepted, Refused}
-use Rattle.message.specs.Into.{Outcome, outcome, readInto, into-refused, into-fits, into-no-room}
+use Rattle.table.specs.Into.{Outcome, outcome, readInto, into-refused, into-fits, into-no-room}
 use Rattle.answer.specs.declared.Gated.{Gated}
 use Rattle.answer.specs.declared.Gated.the-variants.{Open, Shut}
 use Rattle.answer.specs.Gate.{gated, through}

@@ -25,7 +25,7 @@ use Rattle.wire.specs.declared.Reached.{Reached}
 use Rattle.wire.specs.declared.Reached.the-variants as reached
 use Rattle.wire.specs.declared.Field.{Field}
 use Rattle.wire.specs.declared.Record.{Record}
-use Rattle.message.specs.Payload.{payload}
+use Rattle.payload.specs.Payload.{payload}
 use Rattle.message.specs.Tags.{ofTag}
 use Rattle.early.specs.Early as early
 use Rattle.entry_key.specs.Keys.{keyBytes}

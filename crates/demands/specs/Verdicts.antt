@@ -40,8 +40,8 @@ use Rattle.wire.specs.declared.Stepped.{Stepped}
 use Rattle.wire.specs.declared.Stepped.the-variants as stepped
 use Rattle.wire.specs.declared.Reached.{Reached}
 use Rattle.wire.specs.declared.Reached.the-variants as reached
-use Rattle.message.specs.Into.{Outcome, outcome, landed, readInto}
-use Rattle.message.specs.Payload.{payload}
+use Rattle.table.specs.Into.{Outcome, outcome, landed, readInto}
+use Rattle.payload.specs.Payload.{payload}
 use Rattle.message.specs.Tags.{ofTag, atNumber, sought}
 use Rattle.message.specs.Tags as tags
 use Rattle.early.specs.Early.{Stop, Ends, Above, stop, only, earlyOf}

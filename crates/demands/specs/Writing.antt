@@ -29,7 +29,7 @@ use Rattle.wire.specs.declared.Field.{Field}
 use Rattle.wire.specs.declared.Read.{Read}
 use Rattle.wire.specs.declared.Written.{Written}
 use Rattle.wire.specs.declared.Written.the-variants.{At}
-use Rattle.message.specs.Into.{Outcome, outcome, readInto, into-refused, into-fits}
+use Rattle.table.specs.Into.{Outcome, outcome, readInto, into-refused, into-fits}
 use Rattle.answer.specs.Told.{readTold, writtenTold}
 use Rattle.entry_message.specs.Messages.{entry-open}
 use Rattle.entry_write.proofs.encode_message.Kinds as encode

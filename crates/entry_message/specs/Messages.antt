@@ -18,10 +18,10 @@ use Rattle.wire.specs.declared.Read.the-variants.{Refused}
 use Rattle.wire.specs.declared.Early.{Early}
 use Rattle.wire.specs.declared.Early.the-variants as early
 use Rattle.early.specs.Early.{stop, earlyOf}
-use Rattle.message.specs.Into.{Outcome, outcome, readInto}
+use Rattle.table.specs.Into.{Outcome, outcome, readInto}
 use Rattle.message.specs.Tags.{ofTag, atNumber, sought}
-use Rattle.message.specs.Payload.{spanOf, payload}
-use Rattle.message.specs.declared.Span.{Span}
+use Rattle.payload.specs.Payload.{spanOf, payload}
+use Rattle.payload.specs.declared.Span.{Span}
 use Rattle.message.specs.declared.Sought.{Sought}
 use Rattle.message.specs.declared.Sought.the-variants as soughtAs
 use Rattle.answer.specs.Gate.{gated, through, through-open, gated-open}

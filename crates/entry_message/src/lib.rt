@@ -17,7 +17,7 @@ pub fn read_message(s: &[u8], start: usize, end: usize, table: &mut [u64]) -> Re
     if let Gated::Shut(r) = answer::gate(s.len(), start, end) {
         return Read::Refused(r, 0, 0);
     }
-    message::read_into(s, start, end, table)
+    table::read_into(s, start, end, table)
 }
 
 // A record's payload: the part of the message, not a copy. A record that is not a good LengthDelimited one of this message has the empty
@@ -25,7 +25,7 @@ pub fn read_message(s: &[u8], start: usize, end: usize, table: &mut [u64]) -> Re
 pub fn payload_of<'a>(message: &'a [u8], r: Record) -> &'a [u8]
     ensures { λ p. ⌜ partOf p ≡ payloadPart (message .entry) r ⌝ }
 {
-    let p = message::payload_span(message.len(), r);
+    let p = payload::payload_span(message.len(), r);
     let start = p.start;
     let end = start + p.length;
     &message[start..end]

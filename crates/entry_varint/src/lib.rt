@@ -48,7 +48,7 @@ pub fn decode_varint(s: &[u8], at: usize) -> VarintRead
     if let Gated::Shut(r) = answer::gate(s.len(), at, s.len()) {
         return VarintRead::Refused(r, at);
     }
-    match varint::decode_varint(s, at) {
+    match varint_read::decode_varint(s, at) {
         VarintFound::Got(v, next) => VarintRead::Got(v, next),
         VarintFound::Refused(r) => VarintRead::Refused(r, at),
     }
@@ -61,7 +61,7 @@ pub fn decode_varint_capped(s: &[u8], at: usize, end: usize) -> VarintRead
     if let Gated::Shut(r) = answer::gate(s.len(), at, end) {
         return VarintRead::Refused(r, at);
     }
-    match varint::decode_varint_capped(s, at, end) {
+    match varint_read::decode_varint_capped(s, at, end) {
         VarintFound::Got(v, next) => VarintRead::Got(v, next),
         VarintFound::Refused(r) => VarintRead::Refused(r, at),
     }
@@ -71,12 +71,12 @@ pub fn decode_varint_capped(s: &[u8], at: usize, end: usize) -> VarintRead
 pub fn i64_to_unsigned(v: i64) -> u64
     ensures { λ r. ⌜ r ≡ toUnsigned v ⌝ }
 {
-    varint::i64_to_unsigned(v)
+    signed::i64_to_unsigned(v)
 }
 
 // Its inverse.
 pub fn u64_to_signed(u: u64) -> i64
     ensures { λ r. ⌜ r ≡ toSigned u ⌝ }
 {
-    varint::u64_to_signed(u)
+    signed::u64_to_signed(u)
 }

@@ -16,7 +16,7 @@ use Rattle.wire.specs.declared.Value.the-variants as val
 use Rattle.wire.specs.declared.Field.{Field}
 use Rattle.wire.specs.declared.Record.{Record}
 use Rattle.place.specs.Place.{Placed, putAt, Putting, put-start, put-done}
-use Rattle.message.specs.Payload.{payload, span-inside}
+use Rattle.payload.specs.Payload.{payload, span-inside}
 use Rattle.hex.specs.Digits.{digits, hexed}
 use Rattle.frames.specs.Text.{spaced, bytesText, valueText, fieldText, fieldsText}
 use Rattle.frames.specs.Room.{Held, Inside, AllInside}

@@ -17,7 +17,7 @@ use Rattle.wire.specs.declared.Field.{Field}
 use Rattle.wire.specs.declared.Read.{Read}
 use Rattle.wire.specs.declared.Read.the-variants.{Accepted, Refused}
 use Rattle.place.specs.Place.{Placed, placed, putAt, put-roomy}
-use Rattle.message.specs.Into.{Outcome, outcome, landed, readInto}
+use Rattle.table.specs.Into.{Outcome, outcome, landed, readInto}
 use Rattle.hex.specs.Frame.{Framed, frameOf}
 use Rattle.hex.specs.Faults.{half-frame}
 use Rattle.hex.specs.declared.Frame.{Frame}

@@ -16,7 +16,7 @@ use Rattle.wire.specs.declared.Read.{Read}
 use Rattle.wire.specs.declared.Read.the-variants.{Accepted, Refused}
 use Rattle.wire.specs.declared.Record.{Record}
 use Rattle.place.specs.Place.{Placed, placed}
-use Rattle.message.specs.Into.{Outcome}
+use Rattle.table.specs.Into.{Outcome}
 use Rattle.entry_message.specs.Messages.{readEntry}
 use Rattle.hex.specs.Frame.{frameOf}
 use Rattle.hex.specs.declared.Frame.{Frame}

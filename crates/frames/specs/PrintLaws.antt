@@ -18,7 +18,7 @@ use Rattle.wire.specs.declared.Refusal.{Refusal}
 use Rattle.wire.specs.declared.Field.{Field}
 use Rattle.wire.specs.declared.Read.the-variants.{Refused}
 use Rattle.place.specs.Place.{put-front}
-use Rattle.message.specs.Into.{readInto, into-refused, into-no-room, into-fits}
+use Rattle.table.specs.Into.{readInto, into-refused, into-no-room, into-fits}
 use Rattle.entry_message.specs.Messages.{readEntry, entry-open}
 use Rattle.lines.specs.LineLaws.{Keeps, keeps-whole, keeps-long}
 use Rattle.hex.specs.Frame.{Decoded, Decodes, Fails, decoded, lineLimit, framed, frameOf, above-limit, fitting}

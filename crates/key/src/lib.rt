@@ -76,7 +76,7 @@ pub fn prepend_key(buf: &mut [u8], end: usize, last: u32, tag: u32, wire: WireTy
 pub fn decode_key(s: &[u8], at: usize, end: usize, last: u32) -> KeyFound
     ensures { λ r. ⌜ r ≡ keyAt (now (s .entry)) end at last ⌝ }
 {
-    match varint::decode_varint_capped(s, at, end) {
+    match varint_read::decode_varint_capped(s, at, end) {
         VarintFound::Refused(r) => KeyFound::Refused(r),
         VarintFound::Got(key, next) => {
             let tag = (last as u64) + key / 4;

@@ -10,7 +10,7 @@ use Rattle.wire.specs.Table.{room}
 use Rattle.wire.specs.declared.Refusal.the-variants.{NoRoom}
 use Rattle.wire.specs.declared.Field.{Field}
 use Rattle.wire.specs.declared.Read.the-variants.{Accepted, Refused}
-use Rattle.message.specs.Into.{Outcome, into-fits, into-no-room}
+use Rattle.table.specs.Into.{Outcome, into-fits, into-no-room}
 use Rattle.answer.specs.Gate.{gated, through, through-open}
 use Rattle.entry_message.specs.Messages.{readEntry}
 use Rattle.answer.specs.declared.Gated.{Gated}

@@ -33,7 +33,7 @@ fn past_value(s: &[u8], at: usize, end: usize, kind: u64) -> Reached
     if 2 < kind {
         return past_bytes(s.len(), at, 8);
     }
-    match varint::decode_varint_capped(s, at, end) {
+    match varint_read::decode_varint_capped(s, at, end) {
         VarintFound::Refused(r) => Reached::Refused(r),
         VarintFound::Got(n, q) => {
             if kind == 0 {

@@ -16,7 +16,7 @@ use wire::WireType;
 fn number_at(s: &[u8], at: usize, end: usize) -> ValueFound
     ensures { λ r. ⌜ r ≡ valueAt (now (s .entry)) end at Varint ⌝ }
 {
-    match varint::decode_varint_capped(s, at, end) {
+    match varint_read::decode_varint_capped(s, at, end) {
         VarintFound::Got(v, next) => ValueFound::Got(Value::Varint(v), next),
         VarintFound::Refused(r) => ValueFound::Refused(r),
     }
@@ -25,7 +25,7 @@ fn number_at(s: &[u8], at: usize, end: usize) -> ValueFound
 fn payload_at(s: &[u8], at: usize, end: usize) -> ValueFound
     ensures { λ r. ⌜ r ≡ valueAt (now (s .entry)) end at LengthDelimited ⌝ }
 {
-    match varint::decode_varint(s, at) {
+    match varint_read::decode_varint(s, at) {
         VarintFound::Refused(why) => ValueFound::Refused(why),
         VarintFound::Got(n, q) => {
             if ((s.len() - q) as u64) < n {

@@ -1,4 +1,2 @@
-pub mod Only
-pub mod Reading
 pub mod Writing
-pub mod Signed
+pub mod Only

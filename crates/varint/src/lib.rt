@@ -1,15 +1,11 @@
-// Varints: measured, read at a place of a slice, put at a place of a buffer, prepended to one; and the signed mapping.
-// From src/encoding/mod.rs (the looped twins of the varint functions, `Capped::decode_varint`) and varint.rs of bilrost.
+// Varints measured, put at a place of a buffer, prepended to one. From src/encoding/mod.rs (the looped twins of the varint functions) and
+// varint.rs of bilrost.
 ghost use mathlib.Core.Path.{_≡_};
 ghost use Prim.Native.Nat.{_+_, _≤_, _<_};
-ghost use lib.ListN.{length, getD};
+ghost use lib.ListN.{length};
 ghost use lib.Seq.{sets};
 ghost use Rattle.wire.specs.Varint.{encode};
-ghost use Rattle.wire.specs.Reading.{varintAt, cappedAt};
-ghost use Rattle.wire.specs.Signed.{toUnsigned, toSigned};
-ghost use Rattle.place.specs.Place.{Placed, putAt, prependAt};
-use wire::Refusal;
-use wire::VarintFound;
+ghost use Rattle.place.specs.Place.{putAt, prependAt};
 
 // The smallest numbers that are written as one byte, as two, and so on up to nine.
 pub const VARINT_LIMIT: [u64; 9] = [
@@ -54,83 +50,6 @@ pub fn encoded_len_varint(v: u64) -> usize
         L6..L7 => 7,
         L7..L8 => 8,
         _ => 9,
-    }
-}
-
-// A varint that its first byte does not end: up to eight bytes whose sum cannot be too large, and a ninth.
-fn decode_long(s: &[u8], at: usize) -> VarintFound
-    requires { ⌜ (at < length (now s)) × (128 ≤ getD (now s) at 0) ⌝ }
-    ensures { λ r. ⌜ r ≡ varintAt (now (s .entry)) at ⌝ }
-{
-    let mut value = s[at] as u64;
-    let mut scale: u64 = 128;
-    let mut left: usize = 7;
-    let mut p = at + 1;
-    while 0 < left {
-        if s.len() <= p {
-            return VarintFound::Refused(Refusal::Truncated);
-        }
-        let b = s[p] as u64;
-        value += b * scale;
-        p += 1;
-        if b < 128 {
-            return VarintFound::Got(value, p);
-        }
-        scale *= 128;
-        left -= 1;
-    }
-    if s.len() <= p {
-        return VarintFound::Refused(Refusal::Truncated);
-    }
-    let b = s[p] as u64;
-    if 255 < value / 0x100_0000_0000_0000 + b {
-        return VarintFound::Refused(Refusal::InvalidVarint);
-    }
-    VarintFound::Got(value + b * 0x100_0000_0000_0000, p + 1)
-}
-
-// A varint at a place, read from the slice as far as it goes. Most are one byte or two.
-pub fn decode_varint(s: &[u8], at: usize) -> VarintFound
-    ensures { λ r. ⌜ r ≡ varintAt (now (s .entry)) at ⌝ }
-{
-    if s.len() <= at {
-        return VarintFound::Refused(Refusal::Truncated);
-    }
-    let b = s[at] as u64;
-    if b < 128 {
-        return VarintFound::Got(b, at + 1);
-    }
-    if 1 < s.len() - at {
-        let c = s[at + 1] as u64;
-        if c < 128 {
-            return VarintFound::Got(b + 128 * c, at + 2);
-        }
-    }
-    decode_long(s, at)
-}
-
-// A varint of a key or a value: read beyond the end too, and Truncated if it is invalid and its nine bytes pass the end.
-pub fn decode_varint_capped(s: &[u8], at: usize, end: usize) -> VarintFound
-    ensures { λ r. ⌜ r ≡ cappedAt (now (s .entry)) end at ⌝ }
-{
-    if s.len() <= at {
-        return VarintFound::Refused(Refusal::Truncated);
-    }
-    let b = s[at] as u64;
-    if b < 128 {
-        return VarintFound::Got(b, at + 1);
-    }
-    match decode_long(s, at) {
-        VarintFound::Got(v, next) => VarintFound::Got(v, next),
-        VarintFound::Refused(r) => {
-            if end <= at {
-                return VarintFound::Refused(Refusal::Truncated);
-            }
-            if end - at < 9 {
-                return VarintFound::Refused(Refusal::Truncated);
-            }
-            VarintFound::Refused(r)
-        }
     }
 }
 
@@ -221,23 +140,4 @@ pub fn prepend_varint(buf: &mut [u8], end: usize, v: u64) -> usize
     }
     put_long(buf, end - n, v);
     end - n
-}
-
-// A signed number as an unsigned one: v at least 0 gives 2v, v below 0 gives -2v - 1.
-pub fn i64_to_unsigned(v: i64) -> u64
-    ensures { λ r. ⌜ r ≡ toUnsigned v ⌝ }
-{
-    if 0 <= v {
-        (v as u64) * 2
-    } else {
-        (-(v + 1)) as u64 * 2 + 1
-    }
-}
-
-// Its inverse.
-pub fn u64_to_signed(u: u64) -> i64
-    ensures { λ r. ⌜ r ≡ toSigned u ⌝ }
-{
-    let h = (u / 2) as i64;
-    if u % 2 == 0 { h } else { -h - 1 }
 }

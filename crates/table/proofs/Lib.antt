@@ -1,0 +1,3 @@
+pub mod Present
+pub mod Filling
+pub mod Only
