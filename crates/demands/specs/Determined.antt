@@ -83,9 +83,9 @@ pub use Rattle.copy.proofs.Only.{copy-message-one as copy-copy-message-one}
 -- digits
 pub use Rattle.hex.proofs.Only.{digit-of-one as hex-digit-of-one}
 pub use Rattle.hex.proofs.Only.{frame-of-one as hex-frame-of-one}
-pub use Rattle.hex.proofs.Only.{put-hex-one as hex-put-hex-one}
-pub use Rattle.hex.proofs.Only.{put-decimal-one as hex-put-decimal-one}
-pub use Rattle.hex.proofs.Only.{put-hex-bytes-one as hex-put-hex-bytes-one}
+pub use Rattle.digits.proofs.Only.{put-hex-one as hex-put-hex-one}
+pub use Rattle.digits.proofs.Only.{put-decimal-one as hex-put-decimal-one}
+pub use Rattle.digits.proofs.Only.{put-hex-bytes-one as hex-put-hex-bytes-one}
 -- lines
 pub use Rattle.lines.proofs.Only.{more-one as lines-more-one}
 pub use Rattle.lines.proofs.Only.{take-line-one as lines-take-line-one}

@@ -17,7 +17,7 @@ use Rattle.wire.specs.declared.Field.{Field}
 use Rattle.wire.specs.declared.Record.{Record}
 use Rattle.place.specs.Place.{Placed, putAt, Putting, put-start, put-done}
 use Rattle.payload.specs.Payload.{payload, span-inside}
-use Rattle.hex.specs.Digits.{digits, hexed}
+use Rattle.digits.specs.Digits.{digits, hexed}
 use Rattle.frames.specs.Text.{spaced, bytesText, valueText, fieldText, fieldsText}
 use Rattle.frames.specs.Room.{Held, Inside, AllInside}
 use Rattle.frames.specs.Print.{Lined, Recorded, Listed}

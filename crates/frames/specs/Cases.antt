@@ -3,7 +3,7 @@ use Prim.Native.Nat.{ℕ}
 use mathlib.Core.Path.{_≡_, refl}
 use mathlib.Core.List.{List, [], _∷_}
 use Rattle.wire.specs.Reading.{readMessage, fieldAt, varintAt}
-use Rattle.hex.specs.Digits.{digitOf, glyph, digits, placesTo, decimal, hexed}
+use Rattle.digits.specs.Digits.{digitOf, glyph, digits, placesTo, decimal, hexed}
 use Rattle.hex.specs.Frame.{decoded}
 use Rattle.frames.specs.Text.{printed, told, bytesText, valueText, fieldText}
 use Rattle.frames.specs.Dump.{dumped}

@@ -20,8 +20,8 @@ use Rattle.wire.specs.declared.Value.the-variants as val
 use Rattle.wire.specs.declared.ValueFound.the-variants as valueFound
 use Rattle.wire.specs.declared.Field.{Field}
 use Rattle.wire.specs.declared.FieldFound.the-variants as fieldFound
-use Rattle.hex.specs.Digits.{placesTo, decimal, hexed}
-use Rattle.hex.specs.DigitLaws.{length-digits, length-hexed, length-decimal, places-one, places-more}
+use Rattle.digits.specs.Digits.{placesTo, decimal, hexed}
+use Rattle.digits.specs.DigitLaws.{length-digits, length-hexed, length-decimal, places-one, places-more}
 use Rattle.frames.specs.Text.{spaced, headed, wordF, told, bytesText, valueText, fieldText, fieldsText}
 
 -- ---- numbers

@@ -9,7 +9,7 @@ use Rattle.wire.specs.Fixed.{fixed}
 use Rattle.wire.specs.Written.{Content, Number, Payload, Four, Eight, Item, type}
 use Rattle.wire.specs.Places.{items}
 use Rattle.wire.specs.Reading.{Message, Fields, Refused, readMessage}
-use Rattle.hex.specs.Digits.{digits, decimal, hexed}
+use Rattle.digits.specs.Digits.{digits, decimal, hexed}
 use Rattle.hex.specs.Frame.{Decoded, Decodes, Fails, decoded, lineLimit}
 
 -- ---- pieces

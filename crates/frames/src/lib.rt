@@ -8,7 +8,7 @@ ghost use Rattle.wire.specs.Limits.{recordWords};
 ghost use Rattle.wire.specs.Places.{shown, itemOf, items};
 ghost use Rattle.wire.specs.Table.{recordAt, fieldIn, fieldsFrom};
 ghost use Rattle.place.specs.Place.{putAt};
-ghost use Rattle.hex.specs.Digits.{decimal, hexed};
+ghost use Rattle.digits.specs.Digits.{decimal, hexed};
 ghost use Rattle.frames.specs.Text.{headed, wordF, wordOK, told, bytesText, valueText, fieldText, fieldsText};
 ghost use Rattle.frames.specs.Print.{printFrame, Roomy, Lined, Valued, Listed, Closed, Framable, Messaged};
 use hex::Frame;
@@ -34,7 +34,7 @@ fn put_number(out: &mut [u8], at: usize, v: u64) -> usize
     ensures { λ r. ⌜ record { next = r; buf = now (out .exit) } ≡ putAt (now (out .entry)) at (32 ∷ decimal v) ⌝ }
 {
     let p = put_char(out, at, b' ');
-    hex::put_decimal(out, p, v)
+    digits::put_decimal(out, p, v)
 }
 
 // A line's number and a word.
@@ -42,7 +42,7 @@ fn put_head(out: &mut [u8], at: usize, n: u64, word: &[u8]) -> usize
     requires { ⌜ Roomy (now out) at (headed n (now word)) ⌝ }
     ensures { λ r. ⌜ record { next = r; buf = now (out .exit) } ≡ putAt (now (out .entry)) at (headed n (now (word .entry))) ⌝ }
 {
-    let p = hex::put_decimal(out, at, n);
+    let p = digits::put_decimal(out, at, n);
     place::put_part(out, p, word, 0, word.len())
 }
 
@@ -75,7 +75,7 @@ fn put_fixed(out: &mut [u8], at: usize, size: usize, v: u64) -> usize
 {
     let mut b = [0u8; 8];
     place::put_fixed(&mut b, 0, size, v);
-    hex::put_hex_bytes(out, at, &b[0..size])
+    digits::put_hex_bytes(out, at, &b[0..size])
 }
 
 fn put_payload(out: &mut [u8], at: usize, bytes: &[u8]) -> usize
@@ -85,7 +85,7 @@ fn put_payload(out: &mut [u8], at: usize, bytes: &[u8]) -> usize
     if bytes.len() < 1 {
         return put_char(out, at, b'-');
     }
-    hex::put_hex_bytes(out, at, bytes)
+    digits::put_hex_bytes(out, at, bytes)
 }
 
 fn put_value(out: &mut [u8], at: usize, message: &[u8], r: Record) -> usize
@@ -94,7 +94,7 @@ fn put_value(out: &mut [u8], at: usize, message: &[u8], r: Record) -> usize
 {
     let kind = r.kind;
     if kind < 1 {
-        return hex::put_hex(out, at, 16, r.value);
+        return digits::put_hex(out, at, 16, r.value);
     }
     if kind < 2 {
         return put_payload(out, at, capgauze::payload_of(message, r));

@@ -9,11 +9,11 @@ use lib.ListN.{length, take}
 use lib.Dec.{leb}
 use lib.Seq.{sets, length-sets, length-take-le}
 use Rattle.wire.specs.Choose.{choose}
-use Rattle.hex.specs.Digits.{between, digitOf}
-use Rattle.hex.specs.DigitLaws.{Run, Inside, Outside, runs, figure, capital, small, strange, digital}
+use Rattle.digits.specs.Digits.{between, digitOf}
+use Rattle.digits.specs.DigitLaws.{Run, Inside, Outside, runs, figure, capital, small, strange, digital}
 use Rattle.hex.specs.Frame.{Decoded, Decodes, Fails, joined, decoded, joins, lineLimit, Framed, framed, tooLong, frameOf, above-limit, above-line, above-out, fitting}
-use Rattle.hex.specs.declared.Digit.{Digit}
-use Rattle.hex.specs.declared.Digit.the-variants.{Value, Other}
+use Rattle.digits.specs.declared.Digit.{Digit}
+use Rattle.digits.specs.declared.Digit.the-variants.{Value, Other}
 use Rattle.hex.specs.declared.Frame.the-variants.{Bytes, Long, Hex}
 
 -- ---- one character

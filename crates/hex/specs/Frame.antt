@@ -8,9 +8,9 @@ use lib.Dec.{leb}
 use lib.ListN.{length, take}
 use lib.Seq.{sets}
 use Rattle.wire.specs.Choose.{choose}
-use Rattle.hex.specs.Digits.{digitOf}
-use Rattle.hex.specs.declared.Digit.{Digit}
-use Rattle.hex.specs.declared.Digit.the-variants.{Value, Other}
+use Rattle.digits.specs.Digits.{digitOf}
+use Rattle.digits.specs.declared.Digit.{Digit}
+use Rattle.digits.specs.declared.Digit.the-variants.{Value, Other}
 use Rattle.hex.specs.declared.Frame.{Frame}
 use Rattle.hex.specs.declared.Frame.the-variants.{Bytes, Long, Hex}
 

@@ -1,23 +1,16 @@
-// Digits in lines of text: characters read as bytes, and numbers and bytes put as digits at a place of a lent buffer.
-// Each put answers the place after what it put; where that has no room, the place given, and nothing is written.
+// A line's characters read as bytes, two digits a byte.
 ghost use mathlib.Core.Path.{_≡_};
-ghost use Prim.Native.Nat.{_*_, _≤_, _<_, max};
+ghost use Prim.Native.Nat.{_*_, _≤_, max};
 ghost use lib.ListN.{length, take};
 ghost use lib.Seq.{sets};
 ghost use Rattle.wire.specs.Choose.{choose};
-ghost use Rattle.place.specs.Place.{putAt};
-ghost use Rattle.hex.specs.Digits.{between, digitOf, digits, placesTo, decimal, hexed};
-ghost use Rattle.hex.specs.Digits.{glyph as Digits·glyph};
+ghost use Rattle.digits.specs.Digits.{between, digitOf};
 ghost use Rattle.hex.specs.Frame.{frameOf};
 ghost use Rattle.hex.specs.Faults.{faultOf, knownOf, worst, bytesIn, Decodable};
+use digits::Digit;
 
 // The most characters of a frame's line.
 pub const LINE_LIMIT: usize = 4_096;
-
-pub enum Digit {
-    Value(u8),
-    Other,
-}
 
 // The number of bytes, or why there are none: too many characters, or characters that are no bytes.
 pub enum Frame {
@@ -124,81 +117,4 @@ pub fn frame_of(line: &[u8], chars: usize, out: &mut [u8]) -> Frame
     }
     decode(line, chars / 2, out);
     Frame::Bytes(chars / 2)
-}
-
-fn glyph(d: u8) -> u8
-    requires { ⌜ d < 16 ⌝ }
-    ensures { λ r. ⌜ r ≡ Digits·glyph d ⌝ }
-{
-    if d < 10 { 48 + d } else { 55 + d }
-}
-
-// A number's last digits in a base, so many.
-fn put_digits(buf: &mut [u8], at: usize, base: u64, width: usize, v: u64) -> usize
-    requires { ⌜ (0 < base) × (base ≤ 16) ⌝ }
-    ensures { λ r. ⌜ record { next = r; buf = now (buf .exit) } ≡ putAt (now (buf .entry)) at (digits base width v) ⌝ }
-{
-    if buf.len() < at {
-        return at;
-    }
-    if buf.len() - at < width {
-        return at;
-    }
-    let mut x = v;
-    let mut left = width;
-    while 0 < left {
-        left -= 1;
-        buf[at + left] = glyph((x % base) as u8);
-        x = x / base;
-    }
-    at + width
-}
-
-// A number's last digits in hexadecimal, so many, with zeros in front.
-pub fn put_hex(buf: &mut [u8], at: usize, width: usize, v: u64) -> usize
-    ensures { λ r. ⌜ record { next = r; buf = now (buf .exit) } ≡ putAt (now (buf .entry)) at (digits 16 width v) ⌝ }
-{
-    put_digits(buf, at, 16, width, v)
-}
-
-// How many digits a number has in decimal.
-fn decimal_len(v: u64) -> usize
-    ensures { λ r. ⌜ r ≡ placesTo 19 v ⌝ }
-{
-    let mut n: usize = 1;
-    let mut x = v;
-    while 10 <= x {
-        x = x / 10;
-        n += 1;
-    }
-    n
-}
-
-// A number in decimal.
-pub fn put_decimal(buf: &mut [u8], at: usize, v: u64) -> usize
-    ensures { λ r. ⌜ record { next = r; buf = now (buf .exit) } ≡ putAt (now (buf .entry)) at (decimal v) ⌝ }
-{
-    put_digits(buf, at, 10, decimal_len(v), v)
-}
-
-// Bytes in hexadecimal, two digits each.
-pub fn put_hex_bytes(buf: &mut [u8], at: usize, bytes: &[u8]) -> usize
-    ensures { λ r. ⌜ record { next = r; buf = now (buf .exit) } ≡ putAt (now (buf .entry)) at (hexed (now (bytes .entry))) ⌝ }
-{
-    if buf.len() < at {
-        return at;
-    }
-    if (buf.len() - at) / 2 < bytes.len() {
-        return at;
-    }
-    let mut p = at;
-    let mut i = 0;
-    while i < bytes.len() {
-        let b = bytes[i];
-        buf[p] = glyph(b / 16);
-        buf[p + 1] = glyph(b % 16);
-        p += 2;
-        i += 1;
-    }
-    p
 }

@@ -5,7 +5,7 @@ use mathlib.Core.List.{List, [], _∷_, _++_}
 use Rattle.wire.specs.Places.{shown, itemOf}
 use Rattle.wire.specs.Table.{fieldIn}
 use Rattle.place.specs.Place.{Putting}
-use Rattle.hex.specs.Digits.{decimal}
+use Rattle.digits.specs.Digits.{decimal}
 use Rattle.frames.specs.Text.{spaced, valueText, fieldText}
 use Rattle.frames.proofs.Puts.{has-room, put-next, last-room, put-last, whole-part}
 use Rattle.frames.proofs.Fields.{afterKind, line-start}

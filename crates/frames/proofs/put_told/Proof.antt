@@ -1,7 +1,7 @@
 -- `frames::put_told` meets its contract.
 use mathlib.Core.List.{[], _∷_, _++_}
 use Rattle.place.specs.Place.{Putting, put-start}
-use Rattle.hex.specs.Digits.{decimal}
+use Rattle.digits.specs.Digits.{decimal}
 use Rattle.frames.specs.Text.{headed, spaced, told}
 use Rattle.frames.proofs.Puts.{has-room, put-next, last-room, put-last}
 use borrow.Author.Needs.{needs}

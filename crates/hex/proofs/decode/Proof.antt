@@ -1,6 +1,6 @@
 -- `hex::decode` meets its contract.
 use native.Mathlib.Omega.{arith}
-use Rattle.hex.proofs.Turns.{Decoding, decode-start, high-digit, low-digit, decode-inside, decode-more, decode-done}
+use Rattle.hex.proofs.Chars.{Decoding, decode-start, high-digit, low-digit, decode-inside, decode-more, decode-done}
 use borrow.Author.Needs.{needs}
 use Prim.Native.Nat.{_-_}
 use Rattle.hex.proofs.decode.Statement.{statement}

@@ -1,7 +1,7 @@
 -- `hex::digit_of` meets its contract.
 use mathlib.Core.Path.{ap, sym, _∙_}
 use native.Mathlib.Omega.{arith}
-use Rattle.hex.specs.declared.Digit.the-variants.{Value}
+use Rattle.digits.specs.declared.Digit.the-variants.{Value}
 use Rattle.hex.specs.Faults.{faultless, faulty}
 use borrow.Author.Needs.{needs}
 use Rattle.hex.proofs.digit_of.Statement.{statement}

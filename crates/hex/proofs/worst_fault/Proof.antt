@@ -1,6 +1,6 @@
 -- `hex::worst_fault` meets its contract.
 use native.Mathlib.Omega.{arith}
-use Rattle.hex.proofs.Turns.{Testing, test-start, test-more, test-done}
+use Rattle.hex.proofs.Chars.{Testing, test-start, test-more, test-done}
 use borrow.Author.Needs.{needs}
 use Prim.Native.Nat.{_-_}
 use Rattle.hex.proofs.worst_fault.Statement.{statement}

@@ -1,12 +1,12 @@
 -- `hex::put_hex_bytes` meets its contract.
 use mathlib.Core.Path.{sym, refl}
 use native.Mathlib.Omega.{arith}
-use Rattle.hex.proofs.Turns.{Hexing, hex-none, hex-start, hex-inside, hex-next, hex-more, hex-done}
+use Rattle.digits.proofs.Turns.{Hexing, hex-none, hex-start, hex-inside, hex-next, hex-more, hex-done}
 use borrow.Author.Needs.{needs}
 use lib.ListN.{length}
 use Prim.Native.Nat.{_-_}
-use Rattle.hex.proofs.put_hex_bytes.Statement.{statement}
-use Rattle.hex.proofs.put_hex_bytes.Tie as tie
+use Rattle.digits.proofs.put_hex_bytes.Statement.{statement}
+use Rattle.digits.proofs.put_hex_bytes.Tie as tie
 
 abbrev Inv-loop : tie.InvT-loop
 Inv-loop buf₀ at bytes p₀ i₀ buf p i = Hexing buf₀ at bytes buf p i

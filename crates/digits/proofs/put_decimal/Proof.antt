@@ -1,8 +1,8 @@
 -- `hex::put_decimal` meets its contract.
-use Rattle.hex.specs.Digits.{decimal}
+use Rattle.digits.specs.Digits.{decimal}
 use borrow.Author.Needs.{needs}
-use Rattle.hex.proofs.put_decimal.Statement.{statement}
-use Rattle.hex.proofs.put_decimal.Tie as tie
+use Rattle.digits.proofs.put_decimal.Statement.{statement}
+use Rattle.digits.proofs.put_decimal.Tie as tie
 
 decimal-len-requires : tie.Need-decimal-len-requires
 decimal-len-requires c κs = search needs

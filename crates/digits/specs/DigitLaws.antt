@@ -7,8 +7,8 @@ use native.Mathlib.Omega.{arith}
 use borrow.Author.Tests.{le-leb, lt-leb, lt-ltb, le-ltb, leb-true, ltb-true}
 use lib.Dec.{leb, ltb}
 use lib.ListN.{length, length-append}
-use Rattle.hex.specs.Digits.{between, digitOf, glyph, digits, placesTo, decimal, hexed}
-use Rattle.hex.specs.declared.Digit.the-variants.{Value, Other}
+use Rattle.digits.specs.Digits.{between, digitOf, glyph, digits, placesTo, decimal, hexed}
+use Rattle.digits.specs.declared.Digit.the-variants.{Value, Other}
 
 -- ---- a run of characters
 

@@ -4,8 +4,8 @@ use mathlib.Core.Bool.{Bool, false}
 use mathlib.Core.List.{List, [], _∷_, _++_}
 use lib.Dec.{ltb, leb}
 use Rattle.wire.specs.Choose.{choose}
-use Rattle.hex.specs.declared.Digit.{Digit}
-use Rattle.hex.specs.declared.Digit.the-variants.{Value, Other}
+use Rattle.digits.specs.declared.Digit.{Digit}
+use Rattle.digits.specs.declared.Digit.the-variants.{Value, Other}
 
 -- ---- one character
 

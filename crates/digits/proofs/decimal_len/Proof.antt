@@ -1,9 +1,9 @@
 -- `hex::decimal_len` meets its contract.
 use native.Mathlib.Omega.{arith}
-use Rattle.hex.proofs.Turns.{Counting, count-start, count-room, count-more, count-done}
+use Rattle.digits.proofs.Turns.{Counting, count-start, count-room, count-more, count-done}
 use borrow.Author.Needs.{needs}
-use Rattle.hex.proofs.decimal_len.Statement.{statement}
-use Rattle.hex.proofs.decimal_len.Tie as tie
+use Rattle.digits.proofs.decimal_len.Statement.{statement}
+use Rattle.digits.proofs.decimal_len.Tie as tie
 
 abbrev Inv-loop : tie.InvT-loop
 Inv-loop v n₀ x₀ n x = Counting v n x

@@ -3,10 +3,10 @@ use mathlib.Core.Path.{sym}
 use Prim.Native.Nat.{_%_, _<_}
 use native.Mathlib.Nat.{mod-lt}
 use native.Mathlib.Omega.{arith}
-use Rattle.hex.proofs.Turns.{Spelling, spell-none, spell-start, spell-inside, spell-more, spell-done}
+use Rattle.digits.proofs.Turns.{Spelling, spell-none, spell-start, spell-inside, spell-more, spell-done}
 use borrow.Author.Needs.{needs}
-use Rattle.hex.proofs.put_digits.Statement.{statement}
-use Rattle.hex.proofs.put_digits.Tie as tie
+use Rattle.digits.proofs.put_digits.Statement.{statement}
+use Rattle.digits.proofs.put_digits.Tie as tie
 
 abbrev Inv-loop : tie.InvT-loop
 Inv-loop buf₀ at base width v x₀ left₀ buf x left = Spelling buf₀ at base width v buf x left

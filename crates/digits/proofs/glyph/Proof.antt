@@ -1,9 +1,9 @@
 -- `hex::glyph` meets its contract.
 use mathlib.Core.Path.{sym}
-use Rattle.hex.specs.DigitLaws.{glyph-figure, glyph-letter}
+use Rattle.digits.specs.DigitLaws.{glyph-figure, glyph-letter}
 use borrow.Author.Needs.{needs}
-use Rattle.hex.proofs.glyph.Statement.{statement}
-use Rattle.hex.proofs.glyph.Tie as tie
+use Rattle.digits.proofs.glyph.Statement.{statement}
+use Rattle.digits.proofs.glyph.Tie as tie
 
 add-result : tie.Need-add-result
 add-result c = search needs
