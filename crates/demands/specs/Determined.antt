@@ -9,29 +9,30 @@ pub use Rattle.place.proofs.Only.{put-part-one as place-put-part-one}
 pub use Rattle.place.proofs.Only.{put-fixed-one as place-put-fixed-one}
 -- varints
 pub use Rattle.varint.proofs.Only.{encoded-len-varint-one as varint-encoded-len-varint-one}
-pub use Rattle.varint_read.proofs.Only.{decode-varint-one as varint-decode-varint-one}
-pub use Rattle.varint_read.proofs.Only.{decode-varint-capped-one as varint-decode-varint-capped-one}
+pub use Rattle.varint_read.proofs.Only.{decode-varint-one as varint-read-decode-varint-one}
+pub use Rattle.varint_read.proofs.Only.{decode-varint-capped-one as varint-read-decode-varint-capped-one}
 pub use Rattle.varint.proofs.Only.{put-varint-one as varint-put-varint-one}
 pub use Rattle.varint.proofs.Only.{prepend-varint-one as varint-prepend-varint-one}
-pub use Rattle.signed.proofs.Only.{i64-to-unsigned-one as varint-i64-to-unsigned-one}
-pub use Rattle.signed.proofs.Only.{u64-to-signed-one as varint-u64-to-signed-one}
+pub use Rattle.signed.proofs.Only.{i64-to-unsigned-one as signed-i64-to-unsigned-one}
+pub use Rattle.signed.proofs.Only.{u64-to-signed-one as signed-u64-to-signed-one}
 -- one field
-pub use Rattle.key.proofs.Only.{wire-type-of-one as field-wire-type-of-one}
-pub use Rattle.key.proofs.Only.{wire-number-one as field-wire-number-one}
-pub use Rattle.key.proofs.Only.{key-len-one as field-key-len-one}
-pub use Rattle.key.proofs.Only.{put-key-one as field-put-key-one}
-pub use Rattle.key.proofs.Only.{prepend-key-one as field-prepend-key-one}
-pub use Rattle.key.proofs.Only.{decode-key-one as field-decode-key-one}
-pub use Rattle.value.proofs.Only.{four-bytes-one as field-four-bytes-one}
-pub use Rattle.value.proofs.Only.{decode-value-one as field-decode-value-one}
+pub use Rattle.key.proofs.Only.{wire-type-of-one as key-wire-type-of-one}
+pub use Rattle.key.proofs.Only.{wire-number-one as key-wire-number-one}
+pub use Rattle.key.proofs.Only.{key-len-one as key-key-len-one}
+pub use Rattle.key.proofs.Only.{put-key-one as key-put-key-one}
+pub use Rattle.key.proofs.Only.{prepend-key-one as key-prepend-key-one}
+pub use Rattle.key.proofs.Only.{decode-key-one as key-decode-key-one}
+pub use Rattle.value.proofs.Only.{four-bytes-one as value-four-bytes-one}
+pub use Rattle.value.proofs.Only.{value-of-kind-one as value-value-of-kind-one}
+pub use Rattle.value.proofs.Only.{decode-value-one as value-decode-value-one}
 pub use Rattle.field.proofs.Only.{decode-field-one as field-decode-field-one}
 pub use Rattle.field.proofs.Only.{step-from-one as field-step-from-one}
-pub use Rattle.skip.proofs.Only.{skip-field-one as field-skip-field-one}
+pub use Rattle.skip.proofs.Only.{skip-field-one as skip-skip-field-one}
 -- whole messages
 pub use Rattle.message.proofs.Only.{decide-one as message-decide-one}
 pub use Rattle.message.proofs.Only.{find-tag-one as message-find-tag-one}
-pub use Rattle.table.proofs.Only.{read-into-one as message-read-into-one}
-pub use Rattle.payload.proofs.Only.{payload-span-one as message-payload-span-one}
+pub use Rattle.table.proofs.Only.{read-into-one as table-read-into-one}
+pub use Rattle.payload.proofs.Only.{payload-span-one as payload-payload-span-one}
 -- one record
 pub use Rattle.record.proofs.Only.{is-good-one as record-is-good-one}
 pub use Rattle.record.proofs.Only.{weigh-record-one as record-weigh-record-one}
@@ -44,6 +45,8 @@ pub use Rattle.writer.proofs.Only.{write-back-one as writer-write-back-one}
 pub use Rattle.insertion.proofs.Only.{insert-record-one as insertion-insert-record-one}
 -- a tag looked for from the front
 pub use Rattle.early.proofs.Only.{find-early-one as early-find-early-one}
+-- what every reader tests first
+pub use Rattle.answer.proofs.Only.{gate-one as answer-gate-one}
 -- the face
 pub use Rattle.entry_varint.proofs.Only.{encoded-len-varint-one}
 pub use Rattle.entry_varint.proofs.Only.{encode-varint-one}
@@ -83,14 +86,19 @@ pub use Rattle.copy.proofs.Only.{copy-message-one as copy-copy-message-one}
 -- digits
 pub use Rattle.hex.proofs.Only.{digit-of-one as hex-digit-of-one}
 pub use Rattle.hex.proofs.Only.{frame-of-one as hex-frame-of-one}
-pub use Rattle.digits.proofs.Only.{put-hex-one as hex-put-hex-one}
-pub use Rattle.digits.proofs.Only.{put-decimal-one as hex-put-decimal-one}
-pub use Rattle.digits.proofs.Only.{put-hex-bytes-one as hex-put-hex-bytes-one}
+pub use Rattle.digits.proofs.Only.{put-hex-one as digits-put-hex-one}
+pub use Rattle.digits.proofs.Only.{put-decimal-one as digits-put-decimal-one}
+pub use Rattle.digits.proofs.Only.{put-hex-bytes-one as digits-put-hex-bytes-one}
 -- lines
 pub use Rattle.lines.proofs.Only.{more-one as lines-more-one}
 pub use Rattle.lines.proofs.Only.{take-line-one as lines-take-line-one}
 -- frames as text
 pub use Rattle.frames.proofs.Only.{put-frame-one as frames-put-frame-one}
+-- single fields as numbers
+pub use Rattle.single.proofs.Only.{find-one as single-find-one}
+pub use Rattle.single.proofs.Only.{need-one as single-need-one}
+pub use Rattle.single.proofs.Only.{bounded-one as single-bounded-one}
+pub use Rattle.single.proofs.Only.{measure-one as single-measure-one}
 -- soundings
 pub use Rattle.sounding.proofs.Only.{read-sounding-one as sounding-read-sounding-one}
 -- soundings as text
