@@ -7,6 +7,8 @@ pub mod Order
 pub mod Rules
 pub mod RulesLaws
 pub mod Verdicts
+pub mod SoundingRules
+pub mod SoundingVerdict
 pub mod Cases
 pub mod Determined
 pub mod Early

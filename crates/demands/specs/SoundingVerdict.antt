@@ -1,0 +1,213 @@
+-- THE NUMBER THAT READING A SOUNDING TELLS is that of the first refusal in its order whose condition holds, and 0 exactly if none does: of every outcome that the contract allows.
+use Prim.Native.Nat.{ℕ, suc, _-_}
+use mathlib.Core.Path.{_≡_, refl, ap, _∙_, sym}
+use mathlib.Core.Bool.{Bool, true, false, not}
+use mathlib.Core.List.{List, [], _∷_, _++_}
+use native.Mathlib.Omega.{arith}
+use borrow.Author.Tests.{lt-ltb}
+use denote.Ref.{now}
+use lib.Dec.{ltb, leb, eqb}
+use lib.ListN.{length, take, drop}
+use Rattle.wire.specs.Choose.{choose}
+use Rattle.wire.specs.Numbers.{numberOf}
+use Rattle.wire.specs.Table.{kindWord}
+use Rattle.wire.specs.Reading.{Message, Fields, readMessage}
+use Rattle.wire.specs.Reading as reading
+use Rattle.wire.specs.declared.Refusal.{Refusal}
+use Rattle.wire.specs.declared.Refusal.the-variants.{NoRoom, WrongWireType, OutOfRange, MissingField}
+use Rattle.wire.specs.declared.Value.{Value}
+use Rattle.wire.specs.declared.Value.the-variants.{Varint, LengthDelimited, ThirtyTwoBit, SixtyFourBit}
+use Rattle.wire.specs.declared.Field.{Field}
+use Rattle.message.specs.Tags.{ofTag}
+use Rattle.entry_message.specs.Messages.{pickedOf}
+use Rattle.single.specs.Values.{entered, numberPicked, sent, needed, between, allOnes, inRange, measured}
+use Rattle.single.specs.Values as values
+use Rattle.single.specs.declared.Single.{Single}
+use Rattle.single.specs.declared.Single.the-variants as single
+use Rattle.single.specs.declared.NumberFound.{NumberFound}
+use Rattle.single.specs.declared.NumberFound.the-variants as numberFound
+use Rattle.single.specs.declared.MeasuredFound.{MeasuredFound}
+use Rattle.single.specs.declared.MeasuredFound.the-variants as measuredFound
+use Rattle.single.specs.declared.Quantity.{Quantity}
+use Rattle.single.specs.declared.Quantity.the-variants.{Temperature, Depression}
+use Rattle.sounding.specs.Soundings.{levelOf, level, levelIn, Levels, All, Refused, also, each, levels, headOf, head, Judgement, judged, judge, opened}
+use Rattle.sounding.specs.Words.{levelRoom, Outcome, stored, readSounding}
+use Rattle.sounding.specs.Told.{soundingTold}
+use Rattle.sounding.specs.declared.Level.{Level}
+use Rattle.sounding.specs.declared.LevelFound.{LevelFound}
+use Rattle.sounding.specs.declared.LevelFound.the-variants as levelFound
+use Rattle.demands.specs.Order.{Rule, when, firstOf, Numbered, orElse, refused-first, ordered}
+use Rattle.demands.specs.Rules.{orderR, messageRules, fieldsIn}
+use Rattle.demands.specs.RulesLaws.{above, behind, messageNumber, message-told, fields-read}
+use Rattle.demands.specs.Verdicts.{order-r}
+use Rattle.demands.specs.SoundingRules.{sentRules, neededRules, numberIn, boundedRules, strays, measuredRules, levelRules, levelInRules, eachRules, soundingRules, readSoundingOrder}
+use Rattle.sounding.proofs.read_sounding.Kinds as read-sounding
+use Rattle.sounding.proofs.read_sounding.Reads as read-sounding-reads
+
+-- ---- the number of each finding
+
+abbrev foundNumber : NumberFound → ℕ
+foundNumber (numberFound.Got v) = 0
+foundNumber (numberFound.Refused r) = numberOf r
+
+abbrev measuredNumber : MeasuredFound → ℕ
+measuredNumber (measuredFound.Got m) = 0
+measuredNumber (measuredFound.Refused r) = numberOf r
+
+abbrev levelNumber : LevelFound → ℕ
+levelNumber (levelFound.Got l) = 0
+levelNumber (levelFound.Refused r) = numberOf r
+
+abbrev levelsNumber : Levels → ℕ
+levelsNumber (All ls) = 0
+levelsNumber (Refused r) = numberOf r
+
+-- ---- the fields of one tag
+
+abbrev oneSent : List Field → Single
+oneSent gs = numberPicked (pickedOf gs)
+
+-- what is asked of one, in order: that the tag stands once, that it is a Varint, then the rest, of no field or of a number
+module _ (number : Single → ℕ) (refused : (r : Refusal) → number (single.Refused r) ≡ numberOf r) (rest : List Field → List Rule) (absent : number single.Absent ≡ firstOf (rest []))
+    (one : (f : Field) (v : ℕ) → f .value ≡ Varint v → number (single.Number v) ≡ firstOf (rest (f ∷ []))) where
+  sent-told : (gs : List Field) → number (oneSent gs) ≡ firstOf (sentRules gs ++ rest gs)
+  sent-told [] = absent
+  sent-told (f ∷ g ∷ gs) = rw (lt-ltb 1 (length (f ∷ g ∷ gs)) (omega arith)) (refused _)
+  sent-told (f ∷ []) = go (f .value) refl
+    where
+      go : (v : Value) → f .value ≡ v → number (oneSent (f ∷ [])) ≡ firstOf (sentRules (f ∷ []) ++ rest (f ∷ []))
+      go (Varint v) e = ap (λ (w : Value). number (values.numberOf w)) e ∙ one f v e ∙ sym (ap (λ (w : Value). firstOf (when (not (eqb (kindWord w) 0)) WrongWireType ∷ rest (f ∷ []))) e)
+      go (LengthDelimited p n) e = rw e (refused _)
+      go (ThirtyTwoBit v) e = rw e (refused _)
+      go (SixtyFourBit v) e = rw e (refused _)
+
+needed-told : (gs : List Field) → foundNumber (needed (oneSent gs)) ≡ firstOf (neededRules gs)
+needed-told = sent-told (λ x. foundNumber (needed x)) (λ r. refl) (λ gs. when (eqb (length gs) 0) MissingField ∷ []) refl (λ f v e. refl)
+
+bounded-told : (most : ℕ) (gs : List Field) → foundNumber (between 1 most (needed (oneSent gs))) ≡ firstOf (boundedRules most gs)
+unfolding between
+bounded-told most =
+    sent-told (λ x. foundNumber (between 1 most (needed x))) (λ r. refl)
+    (λ gs. when (eqb (length gs) 0) MissingField ∷ when (ltb (numberIn gs) 1) OutOfRange ∷ when (ltb most (numberIn gs)) OutOfRange ∷ []) refl (λ f v e. rw e (go v (leb 1 v) refl (leb v most) refl))
+  where
+    go : (v : ℕ) (a : Bool) → leb 1 v ≡ a → (b : Bool) → leb v most ≡ b
+        → foundNumber (between 1 most (numberFound.Got v)) ≡ firstOf (when (ltb v 1) OutOfRange ∷ when (ltb most v) OutOfRange ∷ [])
+    go v false a b x = rw (above 1 v, a)
+    go v true a false b = rw (above 1 v, above v most, a, b)
+    go v true a true b = rw (above 1 v, above v most, a, b)
+
+measured-told : (q : Quantity) (gs : List Field) → measuredNumber (measured q (oneSent gs)) ≡ firstOf (measuredRules q gs)
+unfolding measured
+measured-told q =
+    sent-told (λ x. measuredNumber (measured q x)) (λ r. refl) (λ gs. when (strays q gs) OutOfRange ∷ []) refl (λ f v e. rw e (go v (eqb v allOnes) refl (inRange q v) refl))
+  where
+    go : (v : ℕ) (a : Bool) → eqb v allOnes ≡ a → (b : Bool) → inRange q v ≡ b
+        → measuredNumber (measured q (single.Number v)) ≡ firstOf (when (choose (eqb v allOnes) false (not (inRange q v))) OutOfRange ∷ [])
+    go v true a b x = rw a
+    go v false a true b = rw (a, b)
+    go v false a false b = rw (a, b)
+
+-- ---- a message that is refused, or read and then judged by its fields
+
+module _ (number : Message → ℕ) (refused : (r : Refusal) (p : ℕ) → number (reading.Refused r p) ≡ numberOf r) (rules : List Field → List Rule)
+    (read : (fs : List Field) → number (Fields fs) ≡ firstOf (rules fs)) where
+  entered-told : (s : List ℕ) → number (entered s) ≡ firstOf (orderR s 0 (length s) (messageRules s 0 (length s) ++ rules (fieldsIn s 0 (length s))))
+  unfolding entered readMessage
+  entered-told s =
+      order-r number (λ r. reading.Refused r 0) (λ r. refused r 0) s 0 (length s) (readMessage s 0 (length s)) (messageRules s 0 (length s) ++ rules (fieldsIn s 0 (length s)))
+      (go (readMessage s 0 (length s)) refl ∙ behind (messageRules s 0 (length s)) (rules (fieldsIn s 0 (length s))) (message-told s 0 (length s)) refl)
+    where
+      go : (m : Message) → readMessage s 0 (length s) ≡ m → number m ≡ orElse (messageNumber m) (firstOf (rules (fieldsIn s 0 (length s))))
+      go (reading.Refused r p) h = refused r p ∙ sym (refused-first r _)
+      go (Fields fs) h = rw (fields-read (length s - 0) s (length s) 0 0 0 fs h) (read fs)
+
+-- ---- a level
+
+level-told : (fs : List Field) → levelNumber (level (Fields fs)) ≡ firstOf (levelRules fs)
+unfolding level sent
+level-told fs =
+    go (between 1 110000 (needed (oneSent (ofTag 1 fs)))) (measured Temperature (oneSent (ofTag 2 fs))) (measured Depression (oneSent (ofTag 3 fs)))
+    ∙ behind (boundedRules 110000 (ofTag 1 fs)) (measuredRules Temperature (ofTag 2 fs) ++ measuredRules Depression (ofTag 3 fs)) (bounded-told 110000 (ofTag 1 fs))
+    (behind (measuredRules Temperature (ofTag 2 fs)) (measuredRules Depression (ofTag 3 fs)) (measured-told Temperature (ofTag 2 fs)) (measured-told Depression (ofTag 3 fs)))
+  where
+    go : (p : NumberFound) (t d : MeasuredFound) → levelNumber (levelOf p t d) ≡ orElse (foundNumber p) (orElse (measuredNumber t) (measuredNumber d))
+    go (numberFound.Refused r) t d = sym (refused-first r _)
+    go (numberFound.Got p) (measuredFound.Refused r) d = sym (refused-first r _)
+    go (numberFound.Got p) (measuredFound.Got t) (measuredFound.Refused r) = refl
+    go (numberFound.Got p) (measuredFound.Got t) (measuredFound.Got d) = refl
+
+level-refused : (r : Refusal) (p : ℕ) → levelNumber (level (reading.Refused r p)) ≡ numberOf r
+unfolding level sent between
+level-refused r p = refl
+
+level-in-told : (s : List ℕ) (v : Value) → levelNumber (levelIn (opened s) v) ≡ firstOf (levelInRules s v)
+level-in-told s (LengthDelimited p n) = entered-told (λ m. levelNumber (level m)) level-refused levelRules level-told (take n (drop p s))
+level-in-told s (Varint v) = refl
+level-in-told s (ThirtyTwoBit v) = refl
+level-in-told s (SixtyFourBit v) = refl
+
+-- ---- the levels: each in its place, so that they are as many as their fields
+
+also-told : (l : LevelFound) (ls : Levels) → levelsNumber (also l ls) ≡ orElse (levelNumber l) (levelsNumber ls)
+also-told (levelFound.Got l) (All ls) = refl
+also-told (levelFound.Got l) (Refused r) = refl
+also-told (levelFound.Refused r) ls = sym (refused-first r _)
+
+each-told : (s : List ℕ) (gs : List Field) → levelsNumber (each (opened s) gs) ≡ firstOf (eachRules s gs)
+each-told s [] = refl
+each-told s (g ∷ gs) = also-told (levelIn (opened s) (g .value)) (each (opened s) gs) ∙ behind (levelInRules s (g .value)) (eachRules s gs) (level-in-told s (g .value)) (each-told s gs)
+
+each-many : (inside : ℕ → ℕ → Message) (gs : List Field) (ls : List Level) → each inside gs ≡ All ls → length ls ≡ length gs
+each-many inside [] ls e = let y : [] ≡ ls = cc in sym (ap length y)
+each-many inside (g ∷ gs) ls e = go (each-many inside gs) (levelIn inside (g .value)) (each inside gs) refl e
+  where
+    go : ((ks : List Level) → each inside gs ≡ All ks → length ks ≡ length gs)
+        → (l : LevelFound) (m : Levels) → each inside gs ≡ m → also l m ≡ All ls → length ls ≡ suc (length gs)
+    go ih (levelFound.Got l) (All ks) h x = let y : l ∷ ks ≡ ls = cc in sym (ap length y) ∙ ap suc (ih ks h)
+    go ih (levelFound.Got l) (Refused r) h x = let z : _≡_ {A = ℕ} 0 1 = cc in absurd (omega arith)
+    go ih (levelFound.Refused r) m h x = let z : _≡_ {A = ℕ} 0 1 = cc in absurd (omega arith)
+
+-- ---- a sounding
+
+abbrev outcomeNumber : Outcome → ℕ
+outcomeNumber o = soundingTold (o .answer) .number
+
+abbrev soundingNumber : List ℕ → Judgement → ℕ
+soundingNumber t j = outcomeNumber (stored t j)
+
+room-told : (t : List ℕ) (n : ℕ) (x y : Outcome) → outcomeNumber x ≡ 0 → outcomeNumber y ≡ numberOf NoRoom
+    → outcomeNumber (choose (leb n (levelRoom t)) x y) ≡ firstOf (when (ltb (levelRoom t) n) NoRoom ∷ [])
+room-told t n x y e f = go (leb n (levelRoom t)) refl
+  where
+    go : (b : Bool) → leb n (levelRoom t) ≡ b → outcomeNumber (choose (leb n (levelRoom t)) x y) ≡ firstOf (when (ltb (levelRoom t) n) NoRoom ∷ [])
+    go true b = rw (above n (levelRoom t), b) e
+    go false b = rw (above n (levelRoom t), b) f
+
+-- station, launch, n levels, the room
+stored-told : (t : List ℕ) (x y : NumberFound) (ls : Levels) (n : ℕ) → ((ks : List Level) → ls ≡ All ks → length ks ≡ n)
+    → soundingNumber t (judged (headOf x y) ls) ≡ orElse (foundNumber x) (orElse (foundNumber y) (orElse (levelsNumber ls) (firstOf (when (ltb (levelRoom t) n) NoRoom ∷ []))))
+stored-told t (numberFound.Refused r) y ls n h = sym (refused-first r _)
+stored-told t (numberFound.Got s) (numberFound.Refused r) ls n h = sym (refused-first r _)
+stored-told t (numberFound.Got s) (numberFound.Got l) (Refused r) n h = sym (refused-first r _)
+stored-told t (numberFound.Got s) (numberFound.Got l) (All ks) n h = rw (← (h ks refl)) (room-told t (length ks) _ _ refl refl)
+
+sounding-told : (s t : List ℕ) (fs : List Field) → soundingNumber t (judge (opened s) (Fields fs)) ≡ firstOf (soundingRules s t fs)
+unfolding judge head levels sent
+sounding-told s t fs =
+    let room = when (ltb (levelRoom t) (length (ofTag 3 fs))) NoRoom ∷ [] in
+    stored-told t (between 1 99999 (needed (oneSent (ofTag 1 fs)))) (needed (oneSent (ofTag 2 fs))) (each (opened s) (ofTag 3 fs)) (length (ofTag 3 fs)) (each-many (opened s) (ofTag 3 fs))
+    ∙ behind (boundedRules 99999 (ofTag 1 fs)) (neededRules (ofTag 2 fs) ++ (eachRules s (ofTag 3 fs) ++ room)) (bounded-told 99999 (ofTag 1 fs))
+    (behind (neededRules (ofTag 2 fs)) (eachRules s (ofTag 3 fs) ++ room) (needed-told (ofTag 2 fs)) (behind (eachRules s (ofTag 3 fs)) room (each-told s (ofTag 3 fs)) refl))
+
+sounding-refused : (s t : List ℕ) (r : Refusal) (p : ℕ) → soundingNumber t (judge (opened s) (reading.Refused r p)) ≡ numberOf r
+unfolding judge head levels sent between
+sounding-refused s t r p = refl
+
+pub read-sounding-number : Numbered 2 read-sounding.ps read-sounding.r read-sounding-reads.Post (λ κs x. soundingTold x .number) (λ κs a. readSoundingOrder (now (a .0)) (now (a .1 .0)))
+unfolding readSounding
+read-sounding-number κs a x e p =
+    let s = now (a .0) in
+    let t = now (a .1 .0) in
+    ordered _ _
+    (ap outcomeNumber p
+    ∙ entered-told (λ m. soundingNumber t (judge (opened s) m)) (sounding-refused s t) (soundingRules s t) (sounding-told s t) s)
