@@ -1,13 +1,12 @@
 -- Bytes put at a buffer's front or at its end: what is answered, and what the buffer holds.
 use Prim.Native.Nat.{ℕ, _+_, _-_, _≤_, _<_}
-use mathlib.Core.Path.{_≡_, refl, ap, _∙_, sym}
+use mathlib.Core.Path.{_≡_, refl, ap, _∙_}
 use mathlib.Core.Bool.{Bool, true, false}
 use mathlib.Core.List.{List, _++_}
 use native.Mathlib.Omega.{arith}
-use borrow.Author.Tests.{le-leb, lt-leb, leb-true, leb-false}
+use borrow.Author.Tests.{leb-true, leb-false}
 use lib.Dec.{leb}
 use lib.ListN.{length, take, drop}
-use lib.Seq.{sets}
 use Rattle.wire.specs.Choose.{choose}
 use Rattle.wire.specs.declared.Refusal.the-variants.{NoRoom}
 use Rattle.place.specs.Place.{Placed, putAt, prependAt, put-roomy, put-none, prepend-roomy, prepend-none, put-front, put-end}

@@ -10,23 +10,21 @@ use lib.ListN.{length, take, drop}
 use Rattle.wire.specs.Choose.{choose}
 use Rattle.wire.specs.Limits.{messageLimit}
 use Rattle.wire.specs.VarintLaws.{Bytes}
-use Rattle.wire.specs.Written.{written}
-use Rattle.wire.specs.Places.{part, items}
+use Rattle.wire.specs.Places.{part}
 use Rattle.wire.specs.Reading.{Message, Fields, readMessage}
 use Rattle.wire.specs.Reading as reading
 use Rattle.wire.specs.Theorem.{accepted}
-use Rattle.wire.specs.Table.{room, filled}
-use Rattle.wire.specs.Writing.{Plan, Writes, plan, Writing, front, back}
+use Rattle.wire.specs.Table.{room}
+use Rattle.wire.specs.Writing.{Writes, plan, Writing, front, back}
 use Rattle.wire.specs.WritingLaws.{into-writes}
 use Rattle.wire.specs.ReadBack.{table-plan}
 use Rattle.wire.specs.declared.Refusal.{Refusal}
 use Rattle.wire.specs.declared.Refusal.the-variants.{NoRoom}
-use Rattle.wire.specs.declared.Field.{Field}
 use Rattle.wire.specs.declared.Read.{Read}
 use Rattle.wire.specs.declared.Read.the-variants as read
 use Rattle.wire.specs.declared.Written.the-variants.{At}
 use Rattle.table.specs.Into.{Outcome, outcome, readInto, into-refused, into-no-room, into-fits}
-use Rattle.answer.specs.Gate.{through-shut, gated-long}
+use Rattle.answer.specs.Gate.{gated-long}
 use Rattle.entry_message.specs.Messages.{readEntry, entry-open}
 use Rattle.entry_write.specs.Writers.{encodeMessage, prependMessage}
 use Rattle.copy.specs.declared.Copied.{Copied}

@@ -1,6 +1,6 @@
 -- Insertion as a list of fields: the new field stands behind all of an equal or lower tag and before all of a higher one, the others are as they were, and a table
 -- that passed every test passes every test again. Over the definition that the contract of `insert` cites.
-use Prim.Native.Nat.{ℕ, zero, suc, _+_, _-_, _*_, _/_, _≤_, _<_}
+use Prim.Native.Nat.{ℕ, zero, suc, _+_, _-_, _*_, _≤_, _<_}
 use mathlib.Core.Path.{_≡_, refl, ap, _∙_, sym}
 use mathlib.Core.Bool.{Bool, true, false}
 use mathlib.Core.List.{List, [], _∷_, _++_}
@@ -9,7 +9,7 @@ use native.Mathlib.Nat.{add-zero}
 use borrow.Author.Tests.{leb-true, leb-false}
 use lib.Dec.{leb}
 use lib.ListN.{length, take, drop, getD, set, length-set, length-append}
-use lib.Seq.{sets, sets-eq, length-sets, getD-set-same, getD-set-other, getD-append-add, getD-take, getD-drop}
+use lib.Seq.{sets, sets-eq, getD-set-same, getD-set-other, getD-append-add, getD-take, getD-drop}
 use contract.Lifetimes.{Lfts}
 use borrow.Fn.Kinds.{Dens, resT, endedOf}
 use denote.Triple.Clauses.{AtExit}
@@ -22,7 +22,6 @@ use Rattle.wire.specs.RecordLaws.{judge-good, judge-fine, fine-at}
 use Rattle.wire.specs.Insertion.{spot, Aim, Puts, Refuses, aim, Insertion, inserted, inserts}
 use Rattle.wire.specs.InsertionLaws.{spot-inside, aim-puts, inserts-puts, inserts-refuses}
 use Rattle.wire.specs.WritingLaws.{checked-fine}
-use Rattle.wire.specs.declared.Field.{Field}
 use Rattle.wire.specs.declared.Record.{Record}
 use Rattle.wire.specs.declared.Inserted.the-variants.{Count}
 use Rattle.place.specs.Place.{length-part}

@@ -1,6 +1,6 @@
 -- A refusal of `read_message` changes nothing, and an accepted read nothing behind its records. Over every outcome that its contract allows.
-use Prim.Native.Nat.{ℕ, _+_, _*_, _≤_}
-use mathlib.Core.Path.{_≡_, refl, ap, _∙_, sym, subst}
+use Prim.Native.Nat.{ℕ, _*_, _≤_}
+use mathlib.Core.Path.{_≡_, refl, sym, subst}
 use mathlib.Core.Bool.{Bool, true, false}
 use mathlib.Core.List.{List}
 use native.Mathlib.Omega.{arith}
@@ -11,9 +11,7 @@ use lib.Seq.{drop-at}
 use Rattle.wire.specs.Limits.{recordWords}
 use Rattle.wire.specs.Reading.{Message, Fields, readMessage}
 use Rattle.wire.specs.Reading as reading
-use Rattle.wire.specs.Formats.{refused-format}
 use Rattle.wire.specs.Table.{records, room, filled, length-records}
-use Rattle.wire.specs.declared.Refusal.{Refusal}
 use Rattle.wire.specs.declared.Field.{Field}
 use Rattle.wire.specs.declared.Read.{Read}
 use Rattle.wire.specs.declared.Read.the-variants.{Accepted, Refused}

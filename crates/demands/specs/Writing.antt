@@ -1,8 +1,8 @@
 -- The third demand, for writing: a message that was read whole into a table and is written from it, forwards or from the end, gives the same bytes
 -- back. Over every outcome that the contracts of `read_message`, `encode_message` and `prepend_message` allow.
 -- And the second, for writing: for every source, table, count and buffer, what is written is the list that the records stand for.
-use Prim.Native.Nat.{ℕ, _+_, _-_, _*_, _≤_}
-use mathlib.Core.Path.{_≡_, refl, ap, _∙_, sym}
+use Prim.Native.Nat.{ℕ, _+_, _-_, _≤_}
+use mathlib.Core.Path.{_≡_, refl, ap, _∙_}
 use mathlib.Core.Bool.{Bool, true, false}
 use mathlib.Core.List.{List, _++_}
 use native.Mathlib.Omega.{arith}
@@ -24,10 +24,8 @@ use Rattle.wire.specs.Records as records
 use Rattle.wire.specs.Writing.{Plan, Writes, Refuses, plan, Writing, into, front, back}
 use Rattle.wire.specs.WritingLaws.{plan-fine, into-writes}
 use Rattle.wire.specs.ReadBack.{table-plan}
-use Rattle.wire.specs.declared.Refusal.{Refusal}
 use Rattle.wire.specs.declared.Field.{Field}
 use Rattle.wire.specs.declared.Read.{Read}
-use Rattle.wire.specs.declared.Written.{Written}
 use Rattle.wire.specs.declared.Written.the-variants.{At}
 use Rattle.table.specs.Into.{Outcome, outcome, readInto, into-refused, into-fits}
 use Rattle.answer.specs.Told.{readTold, writtenTold}

@@ -1,7 +1,7 @@
 -- Worked cases at the limit, computed: the longest payload that can be written, and one byte more.
 use Prim.Native.Nat.{ℕ}
 use mathlib.Core.Path.{_≡_, refl}
-use mathlib.Core.List.{List, [], _∷_}
+use mathlib.Core.List.{[], _∷_}
 use lib.ListN.{replicate}
 use Rattle.wire.specs.Varint.{encode}
 use Rattle.wire.specs.Limits.{messageLimit}

@@ -16,7 +16,6 @@ use Rattle.wire.specs.Reading as reading
 use Rattle.wire.specs.Table.{room, fields-records}
 use Rattle.wire.specs.declared.Refusal.{Refusal}
 use Rattle.wire.specs.declared.Field.{Field}
-use Rattle.wire.specs.declared.Read.the-variants.{Refused}
 use Rattle.place.specs.Place.{put-front}
 use Rattle.table.specs.Into.{readInto, into-refused, into-no-room, into-fits}
 use Rattle.entry_message.specs.Messages.{readEntry, entry-open}

@@ -1,9 +1,9 @@
 -- The loops of insertion, finding the spot and moving words up: where each stands, and what a turn does. And the whole, joined.
-use Prim.Native.Nat.{ℕ, zero, suc, _+_, _-_, _*_, _≤_, _<_}
+use Prim.Native.Nat.{ℕ, suc, _+_, _-_, _*_, _≤_, _<_}
 use mathlib.Core.Path.{_≡_, refl, ap, _∙_, sym}
 use mathlib.Core.List.{List, [], _∷_, _++_}
 use native.Mathlib.Omega.{arith}
-use lib.ListN.{length, take, drop, getD, set, length-append}
+use lib.ListN.{length, getD, set, length-append}
 use lib.Seq.{sets, sets-eq, drop-cons, getD-set-other, length-sets}
 use Rattle.wire.specs.Limits.{recordWords}
 use Rattle.wire.specs.Places.{part}

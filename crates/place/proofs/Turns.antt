@@ -1,13 +1,13 @@
 -- The loops that put bytes: where each stands, and what a turn does.
-use Prim.Native.Nat.{ℕ, zero, suc, _+_, _-_, _*_, _/_, _%_, _≤_, _<_}
-use mathlib.Core.Path.{_≡_, refl, ap, _∙_, sym}
+use Prim.Native.Nat.{ℕ, zero, suc, _+_, _-_, _/_, _%_, _≤_, _<_}
+use mathlib.Core.Path.{_≡_, refl, _∙_, sym}
 use mathlib.Core.List.{List, [], _∷_}
 use native.Mathlib.Omega.{arith}
 use native.Mathlib.Numerals.{add-one}
-use lib.ListN.{length, take, drop, set, getD, length-drop}
-use lib.Seq.{drop-cons, length-take-le}
+use lib.ListN.{length, take, drop, set, getD}
+use lib.Seq.{drop-cons}
 use Rattle.wire.specs.Fixed.{fixed, length-fixed}
-use Rattle.place.specs.Place.{Placed, putAt, putPart, put-none, part-inside, part-outside, length-part, Putting, put-start, put-more, put-inside, put-done}
+use Rattle.place.specs.Place.{putAt, putPart, put-none, part-inside, length-part, Putting, put-start, put-more, put-inside, put-done}
 
 -- ---- a part of a slice
 

@@ -1,9 +1,9 @@
 -- The second pass: what is still to be written, on top of what is there, is the goal.
 use Prim.Native.Nat.{ℕ, suc, _+_, _-_, _*_, _/_, _%_, _^_, _≤_, _<_}
-use mathlib.Core.Path.{_≡_, refl, ap, _∙_, sym}
-use mathlib.Core.List.{List, [], _∷_, _++_}
+use mathlib.Core.Path.{_≡_, ap, _∙_, sym}
+use mathlib.Core.List.{List, _∷_, _++_}
 use native.Mathlib.Omega.{arith}
-use lib.ListN.{length, drop, length-set}
+use lib.ListN.{length, drop}
 use lib.Seq.{sets, sets-eq, length-sets}
 use Rattle.wire.specs.Limits.{recordWords}
 use Rattle.wire.specs.Reading.{fieldAt, varintAt, valueAt, wireOf, Fields, readsFrom, readMessage}

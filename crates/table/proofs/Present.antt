@@ -17,7 +17,7 @@ use Rattle.wire.specs.declared.WireType.{WireType}
 use Rattle.wire.specs.declared.WireType.the-variants as wireType
 use Rattle.wire.specs.declared.Value.{Value}
 use Rattle.wire.specs.declared.Value.the-variants as val
-use Rattle.wire.specs.declared.VarintFound.the-variants.{Got, Refused}
+use Rattle.wire.specs.declared.VarintFound.the-variants.{Got}
 use Rattle.wire.specs.declared.ValueFound.the-variants as valueFound
 use Rattle.table.specs.Second.{Varinted, Valued, Worded}
 

@@ -1,16 +1,15 @@
 -- Reading a varint a byte at a time: where a reader stands, and what each byte does to that.
 use Prim.Native.Nat.{ℕ, zero, suc, _+_, _-_, _*_, _/_, _^_, _≤_, _<_}
-use mathlib.Core.Path.{_≡_, refl, ap, _∙_, sym}
+use mathlib.Core.Path.{_≡_, refl, ap, _∙_}
 use mathlib.Core.Bool.{Bool, true, false}
 use mathlib.Core.List.{List, [], _∷_}
 use native.Mathlib.Omega.{arith}
 use native.Mathlib.Numerals.{add-one}
-use native.Mathlib.Nat.{add-assoc, not-suc-le-zero, mul-le-mul-right, mul-le-mul-left, pow-suc}
+use native.Mathlib.Nat.{not-suc-le-zero, mul-le-mul-right, mul-le-mul-left, pow-suc}
 use mathlib.Core.Logic.{_⊎_, inl, inr}
-use lib.Pow.{pow-pos}
 use borrow.Author.Tests.{lt-ltb, le-ltb}
 use lib.Dec.{ltb}
-use lib.ListN.{length, drop, getD, drop-of-length-le, length-drop}
+use lib.ListN.{length, drop, getD, drop-of-length-le}
 use lib.Seq.{drop-cons}
 use Rattle.wire.specs.Choose.{choose}
 use Rattle.wire.specs.Varint.{Sum, Adds, Stops, before, sum}

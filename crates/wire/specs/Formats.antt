@@ -1,19 +1,17 @@
 -- Which refusals reading can give: Truncated, InvalidVarint and TagOverflowed, the first three.
-use Prim.Native.Nat.{ℕ, zero, suc, _+_, _-_, _/_, _%_, _^_, _≤_, _<_}
-use mathlib.Core.Path.{_≡_, refl, ap, _∙_, sym}
+use Prim.Native.Nat.{ℕ, zero, suc, _+_, _-_, _/_, _^_, _≤_}
+use mathlib.Core.Path.{_≡_, refl}
 use mathlib.Core.Bool.{Bool, true, false}
-use mathlib.Core.List.{List, []}
+use mathlib.Core.List.{List}
 use native.Mathlib.Omega.{arith}
-use borrow.Author.Tests.{lt-ltb, le-ltb, ltb-true, ltb-false}
 use lib.Dec.{ltb, leb, eqb}
 use lib.ListN.{length, drop}
 use Rattle.wire.specs.Choose.{choose}
 use Rattle.wire.specs.Varint.{Sum, Adds, Stops, sum}
 use Rattle.wire.specs.Numbers.{numberOf}
-use Rattle.wire.specs.Reading.{judged, varintAt, renamed, cappedAt, wireOf, keyOf, keyAt, within, numberFrom, payloadFrom, valueAt, tagged, fieldOf, fieldAt, Message, Fields, Refused, more, onward, ended, readsFrom, readMessage}
-use Rattle.wire.specs.Theorem.{turn-field, turn-refused, turn-ended}
+use Rattle.wire.specs.Reading.{judged, varintAt, renamed, cappedAt, keyOf, keyAt, within, numberFrom, payloadFrom, valueAt, tagged, fieldOf, fieldAt, Message, Fields, Refused, more, onward, ended, readsFrom, readMessage}
 use Rattle.wire.specs.declared.Refusal.{Refusal}
-use Rattle.wire.specs.declared.Refusal.the-variants.{Truncated, InvalidVarint, TagOverflowed}
+use Rattle.wire.specs.declared.Refusal.the-variants.{Truncated}
 use Rattle.wire.specs.declared.WireType.{WireType}
 use Rattle.wire.specs.declared.WireType.the-variants as wireType
 use Rattle.wire.specs.declared.Value.{Value}

@@ -1,20 +1,18 @@
 -- The cases of insertion.
-use Prim.Native.Nat.{ℕ, zero, suc, _+_, _-_, _*_, _≤_, _<_}
-use mathlib.Core.Path.{_≡_, refl, ap, _∙_, sym}
+use Prim.Native.Nat.{ℕ, zero, suc, _+_, _-_, _≤_, _<_}
+use mathlib.Core.Path.{_≡_, refl}
 use mathlib.Core.Bool.{Bool, true, false}
-use mathlib.Core.List.{List, [], _∷_, _++_}
+use mathlib.Core.List.{List}
 use native.Mathlib.Omega.{arith}
-use borrow.Author.Tests.{le-leb, lt-leb, leb-true, leb-false, eq-eqb, ne-eqb}
-use lib.Dec.{leb, eqb}
+use borrow.Author.Tests.{le-leb, lt-leb, eq-eqb, ne-eqb}
+use lib.Dec.{leb}
 use lib.ListN.{length}
-use Rattle.wire.specs.Choose.{choose}
 use Rattle.wire.specs.Table.{room, recordAt, good}
-use Rattle.wire.specs.Records.{Verdict, AllFine, First, checked}
-use Rattle.wire.specs.Insertion.{spot, Aim, Puts, Refuses, aimed, aim, Insertion, inserted, inserts}
+use Rattle.wire.specs.Records.{AllFine, First, checked}
+use Rattle.wire.specs.Insertion.{spot, Aim, Puts, Refuses, aim, inserted, inserts}
 use Rattle.wire.specs.declared.Record.{Record}
 use Rattle.wire.specs.declared.Refusal.{Refusal}
 use Rattle.wire.specs.declared.Refusal.the-variants.{NoRoom, BadRecord}
-use Rattle.wire.specs.declared.Inserted.{Inserted}
 use Rattle.wire.specs.declared.Inserted.the-variants.{Count, Refused}
 
 -- ---- the spot

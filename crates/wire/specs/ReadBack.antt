@@ -1,19 +1,19 @@
 -- A message that was read is in the table as records that are good and in order, and they are written as its bytes.
-use Prim.Native.Nat.{ℕ, zero, suc, _+_, _-_, _*_, _/_, _^_, _≤_, _<_}
+use Prim.Native.Nat.{ℕ, zero, suc, _+_, _-_, _*_, _^_, _≤_, _<_}
 use mathlib.Core.Path.{_≡_, refl, ap, _∙_, sym}
-use mathlib.Core.Bool.{Bool, true, false}
+use mathlib.Core.Bool.{true}
 use mathlib.Core.List.{List, [], _∷_, _++_}
 use native.Mathlib.Omega.{arith}
 use borrow.Author.Tests.{lt-ltb, le-leb}
-use lib.ListN.{length, take, drop, length-append, length-drop}
+use lib.ListN.{length, drop, length-append, length-drop}
 use Rattle.wire.specs.Limits.{recordWords}
 use Rattle.wire.specs.VarintLaws.{Bytes}
-use Rattle.wire.specs.Written.{Good, written}
-use Rattle.wire.specs.Places.{part, shown, items}
-use Rattle.wire.specs.Reading.{cappedAt, varintAt, valueAt, fieldAt, Message, Fields, readsFrom, readMessage}
-use Rattle.wire.specs.ReadingLaws.{number-got, payload-got, within-got, value-took, Found, field-found, field-moves}
-use Rattle.wire.specs.Theorem.{Stands, none, some, ended-fields, stands, accepted}
-use Rattle.wire.specs.Table.{kindWord, valueWord, lengthWord, recordOf, words, records, room, filled, recordAt, fieldsFrom, goodValue, good, length-records, record-behind, record-first, fields-records}
+use Rattle.wire.specs.Written.{written}
+use Rattle.wire.specs.Places.{items}
+use Rattle.wire.specs.Reading.{cappedAt, varintAt, valueAt, fieldAt, Fields, readsFrom, readMessage}
+use Rattle.wire.specs.ReadingLaws.{number-got, payload-got, within-got, value-took, field-found, field-moves}
+use Rattle.wire.specs.Theorem.{Stands, none, some, ended-fields, stands}
+use Rattle.wire.specs.Table.{kindWord, valueWord, lengthWord, recordOf, words, records, room, filled, recordAt, goodValue, good, length-records, record-behind, record-first, fields-records}
 use Rattle.wire.specs.Records.{tagBefore, judge, Fine, AllFine, tested, checked, message}
 use Rattle.wire.specs.RecordLaws.{judge-good}
 use Rattle.wire.specs.Writing.{Writes, plan}
@@ -21,7 +21,6 @@ use Rattle.wire.specs.WritingLaws.{checked-tests, plan-fine}
 use Rattle.wire.specs.declared.WireType.{WireType}
 use Rattle.wire.specs.declared.WireType.the-variants as wireType
 use Rattle.wire.specs.declared.Value.{Value}
-use Rattle.wire.specs.declared.Value.the-variants as val
 use Rattle.wire.specs.declared.Field.{Field}
 use Rattle.wire.specs.declared.Record.{Record}
 use Rattle.wire.specs.declared.FieldFound.the-variants as fieldFound

@@ -1,6 +1,5 @@
 -- Reading at places of a slice s, up to an end e.
-use Prim.Native.Nat.{ℕ, zero, suc, _+_, _-_, _*_, _/_, _%_, _^_}
-use mathlib.Core.Bool.{Bool, true, false}
+use Prim.Native.Nat.{ℕ, zero, suc, _+_, _-_, _/_, _%_, _^_}
 use mathlib.Core.List.{List, [], _∷_}
 use lib.Dec.{ltb, leb, eqb}
 use lib.ListN.{length, take, drop}
@@ -14,7 +13,6 @@ use Rattle.wire.specs.declared.WireType.the-variants as wireType
 use Rattle.wire.specs.declared.Value.{Value}
 use Rattle.wire.specs.declared.Value.the-variants as val
 use Rattle.wire.specs.declared.Field.{Field}
-use Rattle.wire.specs.declared.Key.{Key}
 use Rattle.wire.specs.declared.VarintFound.{VarintFound}
 use Rattle.wire.specs.declared.VarintFound.the-variants as varintFound
 use Rattle.wire.specs.declared.KeyFound.{KeyFound}

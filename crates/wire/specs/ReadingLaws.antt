@@ -4,11 +4,10 @@ use mathlib.Core.Path.{_≡_, refl, ap, _∙_, sym}
 use mathlib.Core.Bool.{Bool, true, false}
 use mathlib.Core.List.{List, [], _∷_, _++_, append-assoc}
 use native.Mathlib.Omega.{arith}
-use borrow.Author.Tests.{lt-ltb, le-ltb, le-leb, lt-leb, ltb-true, ltb-false, leb-true, leb-false}
+use borrow.Author.Tests.{lt-ltb, le-leb, lt-leb, ltb-true, leb-true}
 use lib.Dec.{ltb, leb}
-use lib.ListN.{length, take, drop, getD, length-append, length-drop}
-use lib.Seq.{drop-drop, take-add, take-at, take-append-seam, getD-drop, length-take-le}
-use Rattle.wire.specs.Choose.{choose}
+use lib.ListN.{length, take, drop, length-append, length-drop}
+use lib.Seq.{take-at, take-append-seam, getD-drop, length-take-le}
 use Rattle.wire.specs.Varint.{encode, Sum, Adds, Stops, sum}
 use Rattle.wire.specs.VarintLaws.{Bytes, sum-enc, enc-sum, sum-takes, length-pos}
 use Rattle.wire.specs.Numbers.{typeOf}
@@ -16,7 +15,6 @@ use Rattle.wire.specs.Fixed.{fixed, number, length-fixed, number-fixed, 
 use Rattle.wire.specs.Written.{Content, Number, Payload, Four, Eight, Item, type, writtenContent, writtenItem, GoodContent, GoodItem}
 use Rattle.wire.specs.Places.{part, shown, itemOf, join, behind, reach}
 use Rattle.wire.specs.Reading.{judged, varintAt, renamed, cappedAt, wireOf, keyOf, keyAt, within, numberFrom, payloadFrom, valueAt, tagged, fieldOf, fieldAt}
-use Rattle.wire.specs.declared.Refusal.{Refusal}
 use Rattle.wire.specs.declared.Refusal.the-variants.{Truncated, InvalidVarint, TagOverflowed}
 use Rattle.wire.specs.declared.WireType.{WireType}
 use Rattle.wire.specs.declared.WireType.the-variants as wireType
@@ -30,7 +28,6 @@ use Rattle.wire.specs.declared.KeyFound.{KeyFound}
 use Rattle.wire.specs.declared.KeyFound.the-variants as keyFound
 use Rattle.wire.specs.declared.ValueFound.{ValueFound}
 use Rattle.wire.specs.declared.ValueFound.the-variants as valueFound
-use Rattle.wire.specs.declared.FieldFound.{FieldFound}
 use Rattle.wire.specs.declared.FieldFound.the-variants as fieldFound
 
 -- ---- bytes of parts

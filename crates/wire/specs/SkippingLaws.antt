@@ -1,16 +1,16 @@
 -- Skipping, case by case: how far one value goes, and what a turn of the loop over repeated fields does.
-use Prim.Native.Nat.{ℕ, zero, suc, _+_, _-_, _≤_, _<_}
+use Prim.Native.Nat.{ℕ, zero, suc, _+_, _≤_, _<_}
 use mathlib.Core.Path.{_≡_, refl, ap, _∙_}
 use mathlib.Core.Bool.{Bool, true, false}
 use mathlib.Core.List.{List}
 use native.Mathlib.Omega.{arith}
-use borrow.Author.Tests.{lt-ltb, le-ltb, le-leb, lt-leb, leb-true}
-use lib.Dec.{ltb, leb}
+use borrow.Author.Tests.{le-leb, lt-leb, leb-true}
+use lib.Dec.{leb}
 use lib.ListN.{length, getD}
 use Rattle.wire.specs.Choose.{choose}
 use Rattle.wire.specs.Reading.{varintAt, cappedAt, wireOf}
 use Rattle.wire.specs.ReadingLaws.{varint-moves, renamed-got}
-use Rattle.wire.specs.Skipping.{inSlice, pastNumber, pastPayload, pastAt, repeats, beyond, skipFrom, skipAt}
+use Rattle.wire.specs.Skipping.{inSlice, pastNumber, pastPayload, pastAt, repeats, beyond, skipFrom}
 use Rattle.wire.specs.declared.Refusal.{Refusal}
 use Rattle.wire.specs.declared.Refusal.the-variants.{Truncated}
 use Rattle.wire.specs.declared.WireType.{WireType}

@@ -1,18 +1,17 @@
 -- Whole messages: what is accepted is exactly what some good list of items is written as, and there is one such list.
-use Prim.Native.Nat.{ℕ, zero, suc, _+_, _-_, _*_, _^_, _≤_, _<_}
+use Prim.Native.Nat.{ℕ, zero, suc, _+_, _-_, _*_, _≤_, _<_}
 use mathlib.Core.Path.{_≡_, refl, ap, _∙_, sym}
 use mathlib.Core.Bool.{Bool, true, false}
-use mathlib.Core.List.{List, [], _∷_, _++_, append-assoc, append-nil}
+use mathlib.Core.List.{List, [], _∷_, _++_, append-assoc}
 use native.Mathlib.Omega.{arith}
-use borrow.Author.Tests.{lt-ltb, le-ltb, ltb-true, ltb-false, eq-eqb, ne-eqb, eqb-true, eqb-false}
+use borrow.Author.Tests.{lt-ltb, le-ltb, ltb-true, ltb-false, eq-eqb, ne-eqb, eqb-true}
 use lib.Dec.{ltb, eqb}
-use lib.ListN.{length, take, drop, length-append, length-drop, take-append-drop}
-use lib.Seq.{length-take-le, take-length}
-use Rattle.wire.specs.Choose.{choose}
+use lib.ListN.{length, drop, length-append, length-drop, take-append-drop}
+use lib.Seq.{length-take-le}
 use Rattle.wire.specs.VarintLaws.{Bytes}
-use Rattle.wire.specs.Written.{Item, writtenItem, writtenFrom, written, GoodItem, GoodFrom, Good}
-use Rattle.wire.specs.Places.{part, itemOf, items, join, behind, reach}
-use Rattle.wire.specs.Reading.{fieldAt, Message, Fields, Refused, more, onward, ended, readsFrom, readMessage}
+use Rattle.wire.specs.Written.{Item, writtenItem, writtenFrom, written, GoodFrom, Good}
+use Rattle.wire.specs.Places.{part, items, join, behind}
+use Rattle.wire.specs.Reading.{fieldAt, Message, Fields, Refused, more, ended, readsFrom, readMessage}
 use Rattle.wire.specs.ReadingLaws.{field-moves, field-took, field-back, item-pos}
 use Rattle.wire.specs.declared.Refusal.{Refusal}
 use Rattle.wire.specs.declared.Refusal.the-variants.{Truncated}

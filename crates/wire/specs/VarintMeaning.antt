@@ -8,7 +8,7 @@ use native.Mathlib.Omega.{arith}
 use native.Mathlib.Nat.{pow-suc}
 use borrow.Author.Tests.{ltb-true, ltb-false, le-ltb}
 use lib.Dec.{ltb}
-use lib.ListN.{length, take, getD}
+use lib.ListN.{length, getD}
 use lib.Seq.{take-length}
 use Rattle.wire.specs.Varint.{enc, encode, Adds, sum}
 use Rattle.wire.specs.VarintLaws.{Bytes, enc-sum, length-enc, sum-ends}

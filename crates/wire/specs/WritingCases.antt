@@ -7,8 +7,8 @@ use Rattle.wire.specs.Varint.{encode}
 use Rattle.wire.specs.Limits.{messageLimit}
 use Rattle.wire.specs.Table.{recordAt, goodValue, good}
 use Rattle.wire.specs.Records.{judge, checked}
-use Rattle.wire.specs.Writing.{Plan, Writes, Refuses, plan, measured, Writing, front, back}
-use Rattle.wire.specs.Insertion.{aim, Insertion, inserts}
+use Rattle.wire.specs.Writing.{Plan, Writes, Refuses, plan, measured, front, back}
+use Rattle.wire.specs.Insertion.{aim, inserts}
 use Rattle.wire.specs.Insertion as insertion
 use Rattle.wire.specs.declared.Record.{Record}
 use Rattle.wire.specs.declared.Refusal.the-variants.{NoRoom, BadRecord, OutOfOrder}

@@ -1,5 +1,5 @@
 -- The cases of the tests and of a plan, of what is answered and of what is left.
-use Prim.Native.Nat.{ℕ, zero, suc, _+_, _-_, _≤_, _<_}
+use Prim.Native.Nat.{ℕ, _+_, _-_, _≤_, _<_}
 use mathlib.Core.Path.{_≡_, refl, ap, _∙_, sym}
 use mathlib.Core.Bool.{Bool, true, false}
 use mathlib.Core.List.{List}
@@ -7,7 +7,6 @@ use native.Mathlib.Omega.{arith}
 use borrow.Author.Tests.{le-leb, lt-leb, leb-true, leb-false}
 use lib.Dec.{leb}
 use lib.ListN.{length}
-use Rattle.wire.specs.Choose.{choose}
 use Rattle.wire.specs.Table.{room, recordAt}
 use Rattle.wire.specs.Records.{tagBefore, Verdict, AllFine, First, tested, checked, message}
 use Rattle.wire.specs.RecordLaws.{Sound, good-sound, judge-fine, fine-at}

@@ -1,17 +1,16 @@
 -- One number, one value, one record put, in either direction: what the calls say, joined.
 use Prim.Native.Nat.{ℕ, _+_, _-_, _*_, _≤_, _<_}
-use mathlib.Core.Path.{_≡_, refl, ap, _∙_, sym}
+use mathlib.Core.Path.{_≡_, refl, ap, _∙_}
 use mathlib.Core.List.{List, [], _∷_, _++_}
 use mathlib.Core.Logic.{inl}
 use native.Mathlib.Omega.{arith}
 use lib.ListN.{length, take, drop, set, length-append}
 use Rattle.wire.specs.Varint.{encode}
 use Rattle.wire.specs.VarintLaws.{enc-ends}
-use Rattle.wire.specs.Fixed.{fixed}
 use Rattle.wire.specs.Records.{valueBytes, recordBytes}
-use Rattle.wire.specs.RecordLaws.{Sound, length-inside, record-bytes, bytes-varint, bytes-payload, bytes-four, bytes-eight}
+use Rattle.wire.specs.RecordLaws.{Sound, length-inside, record-bytes, bytes-payload}
 use Rattle.wire.specs.declared.Record.{Record}
-use Rattle.place.specs.Place.{Placed, putAt, prependAt, putPart}
+use Rattle.place.specs.Place.{Placed, putAt, putPart}
 use Rattle.place.specs.Spans.{Spans, spans-length, spans-as, spans-put, spans-part, spans-behind, spans-before}
 
 -- ---- a number of one byte

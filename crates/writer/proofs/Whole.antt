@@ -1,14 +1,14 @@
 -- The whole message: what is known where measuring for a buffer found room, and that the message put there is what was promised.
-use Prim.Native.Nat.{ℕ, _+_, _-_, _≤_}
-use mathlib.Core.Path.{_≡_, refl, ap, _∙_, sym}
-use mathlib.Core.List.{List, _++_}
+use Prim.Native.Nat.{ℕ, _-_, _≤_}
+use mathlib.Core.Path.{_≡_, ap, _∙_, sym}
+use mathlib.Core.List.{List}
 use native.Mathlib.Omega.{arith}
-use lib.ListN.{length, take, drop}
+use lib.ListN.{length}
 use Rattle.wire.specs.Records.{message}
-use Rattle.wire.specs.Writing.{Plan, Writes, plan, fitted, Writing, into, front, back}
+use Rattle.wire.specs.Writing.{Writes, plan, fitted, Writing, into, front, back}
 use Rattle.wire.specs.WritingLaws.{Ready, plan-writes, into-writes, fitted-at}
 use Rattle.wire.specs.declared.Written.{Written}
-use Rattle.wire.specs.declared.Written.the-variants.{At, Refused}
+use Rattle.wire.specs.declared.Written.the-variants.{At}
 use Rattle.place.specs.Place.{put-front, put-end}
 use Rattle.place.specs.Spans.{Spans}
 

@@ -1,8 +1,7 @@
 -- `dump::finish` is safe.
-use Prim.Native.Nat.{_≤_}
 use mathlib.Core.Path.{ap}
 use native.Mathlib.Omega.{arith}
-use Rattle.frames.specs.Print.{Printing, printFrame}
+use Rattle.frames.specs.Print.{Printing}
 use Rattle.frames.specs.PrintLaws.{print-inside}
 use borrow.Author.Needs.{needs}
 use Rattle.dump.proofs.finish.Statement.{statement}

@@ -2,7 +2,7 @@
 use mathlib.Core.Path.{_≡_, _∙_, ap, sym}
 use native.Mathlib.Omega.{arith}
 use Prim.Native.Nat.{_<_}
-use Rattle.wire.specs.Reading.{tagged, stepOf, stepAt, valueAt}
+use Rattle.wire.specs.Reading.{tagged, stepOf, stepAt}
 use Rattle.wire.specs.StepLaws.{field-keyed, field-keyless, step-before, step-at, step-past}
 use Rattle.wire.specs.declared.ValueFound.{ValueFound}
 use borrow.Author.Needs.{needs}

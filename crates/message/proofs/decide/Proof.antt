@@ -4,7 +4,7 @@ use mathlib.Core.List.{List, [], _∷_, _++_}
 use native.Mathlib.Omega.{arith}
 use Prim.Native.Nat.{_-_}
 use lib.ListN.{length, length-append}
-use Rattle.wire.specs.Reading.{fieldAt, readMessage}
+use Rattle.wire.specs.Reading.{fieldAt}
 use Rattle.wire.specs.ReadingLaws.{field-moves}
 use Rattle.wire.specs.declared.Field.{Field}
 use Rattle.wire.specs.declared.FieldFound.the-variants.{Got}

@@ -5,7 +5,7 @@ use mathlib.Core.List.{List, []}
 use native.Mathlib.Omega.{arith}
 use Prim.Native.Nat.{ℕ, _-_, _+_, _≤_}
 use lib.ListN.{length}
-use Rattle.wire.specs.Reading.{stepAt, Fields, readMessage}
+use Rattle.wire.specs.Reading.{stepAt, readMessage}
 use Rattle.wire.specs.ReadingLaws.{field-moves}
 use Rattle.wire.specs.StepBack.{step-field}
 use Rattle.wire.specs.declared.Field.{Field}

@@ -38,7 +38,7 @@ use Rattle.entry_field.specs.Fields.{stepEntry}
 use Rattle.answer.specs.declared.Step.{Step}
 use Rattle.answer.proofs.Step as S
 use Rattle.answer.proofs.Step.Laws as S′
-use Rattle.reader.specs.Held.{Made, Stepped}
+use Rattle.reader.specs.Held.{Stepped}
 use Rattle.reader.specs.declared.Reader.{Reader}
 use Rattle.reader.proofs.Held.{row, machine, Fitting, slice, numbers, both, fit}
 use Rattle.reader.proofs.Reader as T

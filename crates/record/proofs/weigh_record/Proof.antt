@@ -7,7 +7,7 @@ use Rattle.wire.specs.VarintLaws.{length-le}
 use Rattle.wire.specs.Table.{good}
 use Rattle.wire.specs.Records.{recordSize}
 use Rattle.wire.specs.RecordLaws.{bad-tag, good-tag, value-good, value-bad, value-short, judge-bad, judge-falls, judge-good, weigh-bad, weigh-fine}
-use Rattle.wire.specs.declared.Weight.the-variants.{Bytes, Bad}
+use Rattle.wire.specs.declared.Weight.the-variants.{Bad}
 use borrow.Author.Needs.{needs}
 use Rattle.record.proofs.weigh_record.Statement.{statement}
 use Rattle.record.proofs.weigh_record.Tie as tie

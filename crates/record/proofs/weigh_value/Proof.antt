@@ -1,5 +1,5 @@
 -- `record::weigh_value` meets its contract.
-use mathlib.Core.Path.{sym, ap, _∙_}
+use mathlib.Core.Path.{sym}
 use native.Mathlib.Omega.{arith}
 use Rattle.wire.specs.VarintLaws.{length-le}
 use Rattle.wire.specs.RecordLaws.{value-number, no-number, value-payload, no-payload, value-four, no-four, value-eight, no-eight, no-type}

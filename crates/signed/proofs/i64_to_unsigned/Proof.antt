@@ -1,8 +1,6 @@
 use Rattle.signed.proofs.Signed as S
 use Rattle.signed.proofs.i64_to_unsigned.Statement.{statement}
 use Rattle.signed.proofs.i64_to_unsigned.Tie as tie
-use Rattle.signed.proofs.i64_to_unsigned.Reads as reads
-use Rattle.signed.proofs.i64_to_unsigned.Lts as lts
 
 -- src/lib.rt:9:10
 cast-result : tie.Need-cast-result

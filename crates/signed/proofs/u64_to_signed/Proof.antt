@@ -2,8 +2,6 @@ use Rattle.signed.proofs.Signed as S
 use borrow.Author.Needs.{needs}
 use Rattle.signed.proofs.u64_to_signed.Statement.{statement}
 use Rattle.signed.proofs.u64_to_signed.Tie as tie
-use Rattle.signed.proofs.u64_to_signed.Reads as reads
-use Rattle.signed.proofs.u64_to_signed.Lts as lts
 
 -- src/lib.rt:18:13
 cast-h : tie.Need-cast-h

@@ -7,7 +7,6 @@ use Rattle.wire.specs.Reading.{wireOf}
 use Rattle.wire.specs.Skipping.{pastAt, skipAt}
 use Rattle.wire.specs.SkippingLaws.{past-moves}
 use Rattle.wire.specs.Types.{wire-type}
-use Rattle.wire.specs.declared.WireType.{WireType}
 use Rattle.wire.specs.declared.Reached.the-variants.{To}
 use Rattle.skip.proofs.Skips.{Passing, pass-start, pass-refused, pass-ends, pass-more}
 use borrow.Author.Needs.{needs}

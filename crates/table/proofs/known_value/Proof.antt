@@ -1,5 +1,5 @@
 -- Each type of value gives its words.
-use mathlib.Core.Path.{_≡_, _∙_, sym}
+use mathlib.Core.Path.{_≡_}
 use native.Mathlib.Omega.{arith}
 use Prim.Native.Nat.{_≤_}
 use Rattle.wire.specs.Fixed.{eight}

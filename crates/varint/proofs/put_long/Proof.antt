@@ -1,5 +1,4 @@
 -- `varint::put_long` meets its contract.
-use Prim.Native.Nat.{_+_}
 use mathlib.Core.Path.{sym}
 use mathlib.Core.Logic.{inl, inr}
 use native.Mathlib.Omega.{arith}

@@ -1,6 +1,5 @@
 -- `writer::measure` meets its contract.
-use Prim.Native.Nat.{_+_, _-_}
-use mathlib.Core.Path.{_≡_, sym, ap, _∙_}
+use mathlib.Core.Path.{sym, ap, _∙_}
 use native.Mathlib.Omega.{arith}
 use Rattle.wire.specs.WritingLaws.{plan-first, spent-first, spent-left, spent-over, spent-fine, measured-refuses, measured-writes}
 use Rattle.wire.specs.declared.Written.the-variants.{At}

@@ -1,6 +1,5 @@
 -- `writer::put_all` meets its contract.
 use Prim.Native.Nat.{_-_}
-use mathlib.Core.Path.{refl, sym}
 use native.Mathlib.Omega.{arith}
 use Rattle.place.specs.Spans.{spans-length}
 use Rattle.writer.proofs.Turns.{Forward, forward-start, forward-one, forward-more, forward-done}

@@ -1,5 +1,4 @@
 -- `writer::write_front` meets its contract.
-use mathlib.Core.List.{_++_}
 use Rattle.wire.specs.Writing.{front}
 use Rattle.wire.specs.WritingLaws.{into-no}
 use Rattle.writer.proofs.Whole.{roomy, front-done}
