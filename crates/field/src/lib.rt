@@ -1,4 +1,4 @@
-// One field under a cap: its key, then its value; and one step of a message. From src/encoding/mod.rs and opaque.rs.
+// One field under a cap: its key, then its value; and one step of a message. From src/encoding/mod.rs and opaque.rs of bilrost.
 ghost use mathlib.Core.Path.{_≡_};
 ghost use Rattle.wire.specs.Reading.{fieldAt, stepAt};
 use wire::Field;

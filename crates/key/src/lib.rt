@@ -1,5 +1,5 @@
 // A field's key: its wire type, read under a cap, measured, put and prepended. From src/encoding/mod.rs (`WireType`, `Capped`, `decode_key`,
-// `TagWriter`, `TagRevWriter`, `RuntimeTagMeasurer`).
+// `TagWriter`, `TagRevWriter`, `RuntimeTagMeasurer`) of bilrost.
 ghost use mathlib.Core.Path.{_≡_};
 ghost use Prim.Native.Nat.{_+_, _-_, _*_, _%_};
 ghost use lib.ListN.{length};

@@ -1,4 +1,4 @@
-// A record's payload: where it starts in its message, and its length.
+// A record's payload: where it starts in its message, and its length. Ours: the Rust hands out the payload itself.
 ghost use mathlib.Core.Path.{_≡_};
 ghost use Rattle.payload.specs.Payload.{spanOf};
 use wire::Record;

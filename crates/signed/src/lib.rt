@@ -1,4 +1,4 @@
-// The signed mapping. From src/encoding/mod.rs of bilrost.
+// The signed mapping. From src/encoding/varint.rs of bilrost.
 ghost use mathlib.Core.Path.{_≡_};
 ghost use Rattle.wire.specs.Signed.{toUnsigned, toSigned};
 

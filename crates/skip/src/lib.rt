@@ -1,4 +1,4 @@
-// Fields passed over: a value, and every field of the same tag behind it. From src/encoding/mod.rs (`skip_field`).
+// Fields passed over: a value, and every field of the same tag behind it. From src/encoding/mod.rs (`skip_field`) of bilrost.
 ghost use mathlib.Core.Path.{_≡_};
 ghost use Prim.Native.Nat.{_+_};
 ghost use Rattle.wire.specs.Reading.{wireOf};

@@ -1,4 +1,4 @@
-// A whole message read into a table: decided and counted first, then written.
+// A whole message read into a table: decided and counted first, then written. From src/encoding/message.rs (`merge`) and opaque.rs of bilrost.
 ghost use mathlib.Core.Path.{_≡_};
 ghost use Prim.Native.Nat.{_+_, _≤_, _<_, _^_};
 ghost use lib.ListN.{length, take, drop};

@@ -1,4 +1,4 @@
-// A field's value under a cap, by its wire type. From src/encoding/mod.rs (`Capped`) and opaque.rs.
+// A field's value under a cap, by its wire type. From src/encoding/mod.rs (`Capped`) and opaque.rs of bilrost.
 ghost use mathlib.Core.Path.{_≡_};
 ghost use mathlib.Core.List.{_∷_, []};
 ghost use Prim.Native.Nat.{_+_, _≤_};

@@ -1,5 +1,5 @@
-// Varints measured, put at a place of a buffer, prepended to one. From src/encoding/mod.rs (the looped twins of the varint functions) and
-// varint.rs of bilrost.
+// Varints measured, put at a place of a buffer, prepended to one. From src/encoding/mod.rs (the looped twins of the varint functions) of
+// bilrost.
 ghost use mathlib.Core.Path.{_≡_};
 ghost use Prim.Native.Nat.{_+_, _≤_, _<_};
 ghost use lib.ListN.{length};
