@@ -55,12 +55,12 @@ abbrev pub levelRules : List Field → List Rule
 levelRules fs = boundedRules 110000 (ofTag 1 fs) ++ (measuredRules Temperature (ofTag 2 fs) ++ measuredRules Depression (ofTag 3 fs))
 
 -- the bytes of one: as a message, then tag by tag
-abbrev pub bytesRules : List ℕ → List Rule
-bytesRules p = orderR p 0 (length p) (messageRules p 0 (length p) ++ levelRules (fieldsIn p 0 (length p)))
+abbrev pub levelBytesRules : List ℕ → List Rule
+levelBytesRules p = orderR p 0 (length p) (messageRules p 0 (length p) ++ levelRules (fieldsIn p 0 (length p)))
 
 -- a field of tag 3: 9 if it is no payload
 abbrev pub levelInRules : List ℕ → Value → List Rule
-levelInRules s (LengthDelimited p n) = bytesRules (take n (drop p s))
+levelInRules s (LengthDelimited p n) = levelBytesRules (take n (drop p s))
 levelInRules s (Varint v) = when true WrongWireType ∷ []
 levelInRules s (ThirtyTwoBit v) = when true WrongWireType ∷ []
 levelInRules s (SixtyFourBit v) = when true WrongWireType ∷ []

@@ -1,5 +1,5 @@
 -- THE NUMBER THAT READING A SOUNDING TELLS is that of the first refusal in its order whose condition holds, and 0 exactly if none does: of every outcome that the contract allows.
-use Prim.Native.Nat.{ℕ, suc, _-_}
+use Prim.Native.Nat.{ℕ, _-_}
 use mathlib.Core.Path.{_≡_, refl, ap, _∙_, sym}
 use mathlib.Core.Bool.{Bool, true, false, not}
 use mathlib.Core.List.{List, [], _∷_, _++_}
@@ -26,12 +26,14 @@ use Rattle.single.specs.declared.Single.{Single}
 use Rattle.single.specs.declared.Single.the-variants as single
 use Rattle.single.specs.declared.NumberFound.{NumberFound}
 use Rattle.single.specs.declared.NumberFound.the-variants as numberFound
+use Rattle.single.specs.declared.Measured.the-variants.{Missing}
 use Rattle.single.specs.declared.MeasuredFound.{MeasuredFound}
 use Rattle.single.specs.declared.MeasuredFound.the-variants as measuredFound
 use Rattle.single.specs.declared.Quantity.{Quantity}
 use Rattle.single.specs.declared.Quantity.the-variants.{Temperature, Depression}
 use Rattle.sounding.specs.Soundings.{levelOf, level, levelIn, Levels, All, Refused, also, each, levels, headOf, head, Judgement, judged, judge, opened}
 use Rattle.sounding.specs.Words.{levelRoom, Outcome, stored, readSounding}
+use Rattle.sounding.specs.Promises.{each-all}
 use Rattle.sounding.specs.Told.{soundingTold}
 use Rattle.sounding.specs.declared.Level.{Level}
 use Rattle.sounding.specs.declared.LevelFound.{LevelFound}
@@ -146,7 +148,7 @@ level-in-told s (Varint v) = refl
 level-in-told s (ThirtyTwoBit v) = refl
 level-in-told s (SixtyFourBit v) = refl
 
--- ---- the levels: each in its place, so that they are as many as their fields
+-- ---- the levels
 
 also-told : (l : LevelFound) (ls : Levels) → levelsNumber (also l ls) ≡ orElse (levelNumber l) (levelsNumber ls)
 also-told (levelFound.Got l) (All ls) = refl
@@ -156,16 +158,6 @@ also-told (levelFound.Refused r) ls = sym (refused-first r _)
 each-told : (s : List ℕ) (gs : List Field) → levelsNumber (each (opened s) gs) ≡ firstOf (eachRules s gs)
 each-told s [] = refl
 each-told s (g ∷ gs) = also-told (levelIn (opened s) (g .value)) (each (opened s) gs) ∙ behind (levelInRules s (g .value)) (eachRules s gs) (level-in-told s (g .value)) (each-told s gs)
-
-each-many : (inside : ℕ → ℕ → Message) (gs : List Field) (ls : List Level) → each inside gs ≡ All ls → length ls ≡ length gs
-each-many inside [] ls e = let y : [] ≡ ls = cc in sym (ap length y)
-each-many inside (g ∷ gs) ls e = go (each-many inside gs) (levelIn inside (g .value)) (each inside gs) refl e
-  where
-    go : ((ks : List Level) → each inside gs ≡ All ks → length ks ≡ length gs)
-        → (l : LevelFound) (m : Levels) → each inside gs ≡ m → also l m ≡ All ls → length ls ≡ suc (length gs)
-    go ih (levelFound.Got l) (All ks) h x = let y : l ∷ ks ≡ ls = cc in sym (ap length y) ∙ ap suc (ih ks h)
-    go ih (levelFound.Got l) (Refused r) h x = let z : _≡_ {A = ℕ} 0 1 = cc in absurd (omega arith)
-    go ih (levelFound.Refused r) m h x = let z : _≡_ {A = ℕ} 0 1 = cc in absurd (omega arith)
 
 -- ---- a sounding
 
@@ -195,7 +187,7 @@ sounding-told : (s t : List ℕ) (fs : List Field) → soundingNumber t (judge (
 unfolding judge head levels sent
 sounding-told s t fs =
     let room = when (ltb (levelRoom t) (length (ofTag 3 fs))) NoRoom ∷ [] in
-    stored-told t (between 1 99999 (needed (oneSent (ofTag 1 fs)))) (needed (oneSent (ofTag 2 fs))) (each (opened s) (ofTag 3 fs)) (length (ofTag 3 fs)) (each-many (opened s) (ofTag 3 fs))
+    stored-told t (between 1 99999 (needed (oneSent (ofTag 1 fs)))) (needed (oneSent (ofTag 2 fs))) (each (opened s) (ofTag 3 fs)) (length (ofTag 3 fs)) (λ ls h. each-all (opened s) (record { tag = 3; value = Varint 0 }) (record { pressure = 0; temperature = Missing; depression = Missing }) (ofTag 3 fs) ls h .0)
     ∙ behind (boundedRules 99999 (ofTag 1 fs)) (neededRules (ofTag 2 fs) ++ (eachRules s (ofTag 3 fs) ++ room)) (bounded-told 99999 (ofTag 1 fs))
     (behind (neededRules (ofTag 2 fs)) (eachRules s (ofTag 3 fs) ++ room) (needed-told (ofTag 2 fs)) (behind (eachRules s (ofTag 3 fs)) room (each-told s (ofTag 3 fs)) refl))
 
