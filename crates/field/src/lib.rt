@@ -58,3 +58,89 @@ pub fn step_from(s: &[u8], at: usize, end: usize, last: u32) -> Stepped
         }
     }
 }
+
+// One step of a message: before the end a field, at the end no more, past it Truncated.
+pub fn next_field(s: &[u8], at: usize, end: usize, last: u32) -> Stepped
+    ensures { λ r. ⌜ r ≡ stepAt (now (s .entry)) end at last ⌝ }
+{
+    if at == end {
+        return Stepped::End;
+    }
+    if end < at {
+        return Stepped::Refused(Refusal::Truncated);
+    }
+    match key::decode_key(s, at, end, last) {
+        KeyFound::Refused(r) => Stepped::Refused(r),
+        KeyFound::Got(key, q) => {
+            let wire = key.wire;
+            match value::value_by_kind(s, q, end, key::wire_number(wire)) {
+                ValueFound::Refused(r) => Stepped::Refused(r),
+                ValueFound::Got(v, next) => Stepped::Field(
+                    Field {
+                        tag: key.tag,
+                        value: v,
+                    },
+                    next,
+                ),
+            }
+        }
+    }
+}
+
+// One step of a message: before the end a field, at the end no more, past it Truncated.
+pub fn walk_field(s: &[u8], at: usize, end: usize, last: u32) -> Stepped
+    ensures { λ r. ⌜ r ≡ stepAt (now (s .entry)) end at last ⌝ }
+{
+    if at == end {
+        return Stepped::End;
+    }
+    if end < at {
+        return Stepped::Refused(Refusal::Truncated);
+    }
+    match key::decode_key(s, at, end, last) {
+        KeyFound::Refused(r) => Stepped::Refused(r),
+        KeyFound::Got(key, q) => {
+            let wire = key.wire;
+            match value::value_of_type(s, q, end, key::wire_number(wire)) {
+                ValueFound::Refused(r) => Stepped::Refused(r),
+                ValueFound::Got(v, next) => Stepped::Field(
+                    Field {
+                        tag: key.tag,
+                        value: v,
+                    },
+                    next,
+                ),
+            }
+        }
+    }
+}
+
+
+// One step of a message: before the end a field, at the end no more, past it Truncated.
+pub fn pass_field(s: &[u8], at: usize, end: usize, last: u32) -> Stepped
+    ensures { λ r. ⌜ r ≡ stepAt (now (s .entry)) end at last ⌝ }
+{
+    if at == end {
+        return Stepped::End;
+    }
+    if end < at {
+        return Stepped::Refused(Refusal::Truncated);
+    }
+    match key::decode_key(s, at, end, last) {
+        KeyFound::Refused(r) => Stepped::Refused(r),
+        KeyFound::Got(key, q) => {
+            let wire = key.wire;
+            match value::value_in_pass(s, q, end, key::wire_number(wire)) {
+                ValueFound::Refused(r) => Stepped::Refused(r),
+                ValueFound::Got(v, next) => Stepped::Field(
+                    Field {
+                        tag: key.tag,
+                        value: v,
+                    },
+                    next,
+                ),
+            }
+        }
+    }
+}
+

@@ -63,7 +63,7 @@ pub fn find_tag(s: &[u8], start: usize, end: usize, tag: u32, number: usize) -> 
         value: Value::Varint(0),
     };
     loop {
-        match field::step_from(s, p, end, last) {
+        match field::next_field(s, p, end, last) {
             Stepped::Refused(r) => {
                 return Sought::Refused(r);
             }

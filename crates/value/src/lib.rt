@@ -115,3 +115,54 @@ pub fn decode_value(s: &[u8], at: usize, end: usize, wire: WireType) -> ValueFou
         WireType::SixtyFourBit => eight_at(s, at, end),
     }
 }
+
+// A value by the number of its type: two tests, no table of jumps. It has one caller, and so is folded into it.
+pub fn value_by_kind(s: &[u8], at: usize, end: usize, kind: u64) -> ValueFound
+    ensures { λ r. ⌜ r ≡ valueAt (now (s .entry)) end at (wireOf kind) ⌝ }
+{
+    if kind < 2 {
+        if kind == 0 {
+            return number_at(s, at, end);
+        }
+        return payload_at(s, at, end);
+    }
+    if kind == 2 {
+        return four_at(s, at, end);
+    }
+    eight_at(s, at, end)
+}
+
+
+// A value by the number of its type: two tests, no table of jumps. It has one caller, and so is folded into it.
+pub fn value_of_type(s: &[u8], at: usize, end: usize, kind: u64) -> ValueFound
+    ensures { λ r. ⌜ r ≡ valueAt (now (s .entry)) end at (wireOf kind) ⌝ }
+{
+    if kind < 2 {
+        if kind == 0 {
+            return number_at(s, at, end);
+        }
+        return payload_at(s, at, end);
+    }
+    if kind == 2 {
+        return four_at(s, at, end);
+    }
+    eight_at(s, at, end)
+}
+
+
+// A value by the number of its type: two tests, no table of jumps. It has one caller, and so is folded into it.
+pub fn value_in_pass(s: &[u8], at: usize, end: usize, kind: u64) -> ValueFound
+    ensures { λ r. ⌜ r ≡ valueAt (now (s .entry)) end at (wireOf kind) ⌝ }
+{
+    if kind < 2 {
+        if kind == 0 {
+            return number_at(s, at, end);
+        }
+        return payload_at(s, at, end);
+    }
+    if kind == 2 {
+        return four_at(s, at, end);
+    }
+    eight_at(s, at, end)
+}
+

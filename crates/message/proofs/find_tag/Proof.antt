@@ -28,8 +28,8 @@ abbrev μ-loop : tie.MeasureT-loop
 loop-holds : tie.Need-loop-holds Inv-loop μ-loop
 loop-holds c = (_, [], walk-start _ _ _, seen-none _ _ _)
 
-step-from-requires : tie.Need-step-from-requires Inv-loop μ-loop
-step-from-requires c κs = search needs
+next-field-requires : tie.Need-next-field-requires Inv-loop μ-loop
+next-field-requires c κs = search needs
 
 enum-known-r : tie.Need-enum-known-r Inv-loop μ-loop
 enum-known-r c = search needs
@@ -37,7 +37,7 @@ enum-known-r c = search needs
 returns : tie.Need-returns Inv-loop μ-loop
 returns c =
     let i = c .before .before .before .before .loop .inv in
-    sym (ap (sought _ _) (walk-step-refused (i .2) _ (sym (c .before .before .before .step-from .ensures) ∙ c .before .r .given .1) .1))
+    sym (ap (sought _ _) (walk-step-refused (i .2) _ (sym (c .before .before .before .next-field .ensures) ∙ c .before .r .given .1) .1))
 
 enum-told : tie.Need-enum-told Inv-loop μ-loop
 enum-told c = search needs
@@ -49,7 +49,7 @@ enum-known-f c = search needs
 turn : (c : tie.After-known-told2 Inv-loop μ-loop)
     → let l = c .before .before .before .before .loop in let a = c .before .before .before .before .before .before .args in
     stepAt (a .s .now) (a .end) (l .p) (l .last) ≡ stepped.Field (c .before .f .given .0 .0) (c .before .f .given .0 .1 .0)
-turn c = sym (c .before .before .before .step-from .ensures) ∙ c .before .f .given .1
+turn c = sym (c .before .before .before .next-field .ensures) ∙ c .before .f .given .1
 
 moves : (c : tie.After-known-told2 Inv-loop μ-loop) → let q = c .before .f .given .0 .1 .0 in
     (c .before .before .before .before .loop .p + 2 ≤ q) × (q ≤ length (c .before .before .before .before .before .before .args .s .now))
@@ -85,7 +85,7 @@ loop-again-2 c =
 whole : (c : tie.After-enum-told Inv-loop μ-loop)
     → let l = c .before .before .before .loop in let a = c .before .before .before .before .before .args in
     sought (a .tag) (a .number) (readMessage (a .s .now) (a .start) (a .end)) ≡ atNumber (a .number) (ofTag (a .tag) (l .inv .1))
-whole c = ap (sought _ _) (walk-steps-end (c .before .before .before .loop .inv .2) (sym (c .before .before .step-from .ensures) ∙ c .enum-told .given .1))
+whole c = ap (sought _ _) (walk-steps-end (c .before .before .before .loop .inv .2) (sym (c .before .before .next-field .ensures) ∙ c .enum-told .given .1))
 
 returns-2 : tie.Need-returns-2 Inv-loop μ-loop
 returns-2 c = sym (whole (c .before) ∙ seen-found (c .before .before .before .before .loop .inv .3) (c .if3 .taken))
@@ -100,7 +100,7 @@ find-tag-spec =
     Inv-loop
     μ-loop
     loop-holds
-    step-from-requires
+    next-field-requires
     enum-known-r
     returns
     enum-told
