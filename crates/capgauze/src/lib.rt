@@ -1,33 +1,49 @@
-// The face: every entry that a caller has, and every answer, by one name. Each stands with its contract in the room that it is taken from.
+// The face: every entry that a caller has, and every answer, by one name. Each stands with its contract in the crate that it is taken from.
 
 // ---- answers
-pub use answer::KeyRead;
-pub use answer::Measured;
-pub use answer::More;
-pub use answer::Picked;
-pub use answer::Put;
-pub use answer::Several;
-pub use answer::Skipped;
-pub use answer::Step;
-pub use answer::ValueRead;
-pub use answer::VarintRead;
+pub use entry_answer::KeyRead;
+pub use entry_answer::Measured;
+pub use entry_answer::More;
+pub use entry_answer::Picked;
+pub use entry_answer::Put;
+pub use entry_answer::Several;
+pub use entry_answer::Skipped;
+pub use entry_answer::Step;
+pub use entry_answer::ValueRead;
+pub use entry_answer::VarintRead;
+pub use entry_copy::Copied;
+pub use entry_reader::Counted;
+pub use entry_reader::Reader;
+pub use sounding::Head;
+pub use sounding::Sounding;
+pub use wire::Early;
+pub use wire::Field;
+pub use wire::Inserted;
+pub use wire::Key;
+pub use wire::Read;
+pub use wire::Record;
+pub use wire::Refusal;
+pub use wire::Value;
+pub use wire::WireType;
+pub use wire::Written;
+pub use wire::number_of;
 
 // ---- varints
 pub use entry_varint::decode_varint;
 pub use entry_varint::decode_varint_capped;
 pub use entry_varint::encode_varint;
-pub use entry_varint::encoded_len_varint;
-pub use entry_varint::i64_to_unsigned;
 pub use entry_varint::prepend_varint;
-pub use entry_varint::u64_to_signed;
+pub use varint_signed::i64_to_unsigned;
+pub use varint_signed::u64_to_signed;
+pub use varint_write::encoded_len_varint;
 
 // ---- keys
 pub use entry_key::decode_key;
 pub use entry_key::encode_key;
 pub use entry_key::key_len;
 pub use entry_key::prepend_key;
-pub use entry_key::wire_number;
-pub use entry_key::wire_type_of;
+pub use field_key::wire_number;
+pub use field_key::wire_type_of;
 
 // ---- values and single fields
 pub use entry_field::decode_value;
@@ -43,8 +59,20 @@ pub use entry_message::pick_early;
 pub use entry_message::read_message;
 pub use entry_message::read_payload;
 
+// ---- a reader that is held, and what goes through one
+pub use entry_reader::count_fields;
+pub use entry_reader::has_more;
+pub use entry_reader::make;
+pub use entry_reader::step_through;
+pub use entry_reader::take_step;
+
 // ---- tables written
+pub use entry_copy::copy_message;
 pub use entry_write::encode_message;
 pub use entry_write::encoded_len_message;
 pub use entry_write::insert;
 pub use entry_write::prepend_message;
+
+// ---- soundings
+pub use sounding::LEVEL_WORDS;
+pub use sounding::read_sounding;

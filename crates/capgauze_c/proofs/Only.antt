@@ -2,7 +2,7 @@
 use mathlib.Core.Path.{_∙_, sym}
 use denote.Ref.{now}
 use Rattle.wire.specs.Only.{One}
-use Rattle.answer.specs.Told as told
+use Rattle.entry_answer.specs.Told as told
 use Rattle.sounding.specs.Told as soundings
 use Rattle.capgauze_c.specs.Words.{Lent, asNumber, asVarint, asKey, asValue, asPlace, asStep, asRead, asPicked, asSeveral, asEarly, asPart, asWritten, asSounding}
 use Rattle.capgauze_c.proofs.capgauze_encoded_len_varint.Kinds as encoded-len-varint

@@ -3,17 +3,17 @@ use Prim.Native.Nat.{ℕ, zero, suc, _≤_}
 use mathlib.Core.Path.{_≡_, refl}
 use mathlib.Core.List.{List}
 use native.Mathlib.Omega.{arith}
-use Rattle.answer.specs.Told as told
-use Rattle.answer.specs.Told.{putTold, readTold, writtenTold, insertedTold}
-use Rattle.wire.specs.Writing.{Writing}
-use Rattle.wire.specs.Insertion.{Insertion}
-use Rattle.answer.specs.Stores.{Stored}
+use Rattle.entry_answer.specs.Told as told
+use Rattle.entry_answer.specs.Told.{putTold, readTold, writtenTold, insertedTold}
+use Rattle.write_message.specs.Writing.{Writing}
+use Rattle.write_insertion.specs.Insertion.{Insertion}
+use Rattle.entry_answer.specs.Stores.{Stored}
 use Rattle.wire.specs.Numbers.{numberOf}
 use Rattle.wire.specs.declared.Refusal.the-variants.{BadRecord}
 use Rattle.wire.specs.declared.WireType.{WireType}
 use Rattle.wire.specs.declared.WireType.the-variants as wireType
-use Rattle.table.specs.Into.{Outcome}
-use Rattle.payload.specs.declared.Span.{Span}
+use Rattle.message_table.specs.Into.{Outcome}
+use Rattle.message_payload.specs.declared.Span.{Span}
 use Rattle.sounding.specs.Told as soundings
 use Rattle.sounding.specs.Told.{soundingTold}
 use Rattle.sounding.specs.Words as levels

@@ -5,13 +5,13 @@ ghost use lib.ListN.{length as size};
 ghost use Rattle.wire.specs.Table.{kindWord, valueWord, lengthWord};
 ghost use Rattle.wire.specs.Varint.{encode};
 ghost use Rattle.wire.specs.Signed.{toUnsigned, toSigned};
-ghost use Rattle.payload.specs.Payload.{spanOf};
-ghost use Rattle.answer.specs.Told.{putTold, varintTold, readTold, pickedTold, severalTold, earlyTold, measuredTold, keyTold, valueTold, skippedTold, stepTold, writtenTold, insertedTold};
+ghost use Rattle.message_payload.specs.Payload.{spanOf};
+ghost use Rattle.entry_answer.specs.Told.{putTold, varintTold, readTold, pickedTold, severalTold, earlyTold, measuredTold, keyTold, valueTold, skippedTold, stepTold, writtenTold, insertedTold};
 ghost use Rattle.entry_write.specs.Writers.{encodeMessage, prependMessage, encodedLen, insertRecord};
 ghost use Rattle.entry_key.specs.Keys.{decodeKey, keyAtFront, keyAtEnd, keyLen};
 ghost use Rattle.entry_field.specs.Fields.{decodeValue, skipField, stepEntry};
 ghost use Rattle.entry_varint.specs.Varints.{decodeVarint, decodeVarintCapped};
-ghost use Rattle.answer.specs.Stores.{atFront, atEnd};
+ghost use Rattle.entry_answer.specs.Stores.{atFront, atEnd};
 ghost use Rattle.entry_message.specs.Messages.{readEntry, readPayload, pickEntry, severalEntry, earlyEntry};
 ghost use Rattle.sounding.specs.Told.{soundingTold};
 ghost use Rattle.sounding.specs.Words.{readSounding};
@@ -680,7 +680,7 @@ pub extern "C" fn capgauze_payload_of(
         value: value,
         length: length,
     };
-    let p = payload::payload_span(s.len(), r);
+    let p = message_payload::payload_span(s.len(), r);
     Part {
         start: p.start as u64,
         length: p.length as u64,

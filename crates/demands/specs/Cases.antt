@@ -22,21 +22,21 @@ use Rattle.wire.specs.declared.Reached.{Reached}
 use Rattle.wire.specs.Table.{room}
 use Rattle.wire.specs.Cases.{Case, Encodes, Varint, Reads, Skips, Right, All, cases}
 use Rattle.wire.specs.Cases as paper
-use Rattle.table.specs.Into.{Outcome, readInto, into-refused, into-fits}
-use Rattle.answer.specs.Gate.{gated, through-open, gated-open}
+use Rattle.message_table.specs.Into.{Outcome, readInto, into-refused, into-fits}
+use Rattle.entry_answer.specs.Gate.{gated, through-open, gated-open}
 use Rattle.entry_varint.specs.Varints.{varintRead, decodeVarint}
-use Rattle.answer.specs.Stores.{Stored, roomFor, atFront, atEnd}
+use Rattle.entry_answer.specs.Stores.{Stored, roomFor, atFront, atEnd}
 use Rattle.entry_field.specs.Fields.{skipAnswer, skipField}
-use Rattle.answer.specs.Told.{Message as Answer, putTold, varintTold, skippedTold, readTold}
+use Rattle.entry_answer.specs.Told.{Message as Answer, putTold, varintTold, skippedTold, readTold}
 use Rattle.entry_message.specs.Messages.{readEntry}
-use Rattle.answer.specs.declared.Gated.the-variants.{Open}
-use Rattle.answer.specs.declared.Put.the-variants.{Done}
+use Rattle.entry_answer.specs.declared.Gated.the-variants.{Open}
+use Rattle.entry_answer.specs.declared.Put.the-variants.{Done}
 use Rattle.entry_varint.proofs.encode_varint.Kinds as encode-varint
 use Rattle.entry_varint.proofs.encode_varint.Reads as encode-varint-reads
 use Rattle.entry_varint.proofs.prepend_varint.Kinds as prepend-varint
 use Rattle.entry_varint.proofs.prepend_varint.Reads as prepend-varint-reads
-use Rattle.entry_varint.proofs.encoded_len_varint.Kinds as encoded-len-varint
-use Rattle.entry_varint.proofs.encoded_len_varint.Reads as encoded-len-varint-reads
+use Rattle.varint_write.proofs.encoded_len_varint.Kinds as encoded-len-varint
+use Rattle.varint_write.proofs.encoded_len_varint.Reads as encoded-len-varint-reads
 use Rattle.entry_varint.proofs.decode_varint.Kinds as decode-varint
 use Rattle.entry_varint.proofs.decode_varint.Reads as decode-varint-reads
 use Rattle.entry_field.proofs.skip_field.Kinds as skip-field

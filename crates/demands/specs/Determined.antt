@@ -8,55 +8,50 @@ pub use Rattle.wire.proofs.Only.{number-of-one as wire-number-of-one}
 pub use Rattle.place.proofs.Only.{put-part-one as place-put-part-one}
 pub use Rattle.place.proofs.Only.{put-fixed-one as place-put-fixed-one}
 -- varints
-pub use Rattle.varint.proofs.Only.{encoded-len-varint-one as varint-encoded-len-varint-one}
+pub use Rattle.varint_write.proofs.Only.{encoded-len-varint-one as varint-encoded-len-varint-one}
 pub use Rattle.varint_read.proofs.Only.{decode-varint-one as varint-read-decode-varint-one}
 pub use Rattle.varint_read.proofs.Only.{decode-varint-capped-one as varint-read-decode-varint-capped-one}
-pub use Rattle.varint.proofs.Only.{put-varint-one as varint-put-varint-one}
-pub use Rattle.varint.proofs.Only.{prepend-varint-one as varint-prepend-varint-one}
-pub use Rattle.signed.proofs.Only.{i64-to-unsigned-one as signed-i64-to-unsigned-one}
-pub use Rattle.signed.proofs.Only.{u64-to-signed-one as signed-u64-to-signed-one}
+pub use Rattle.varint_write.proofs.Only.{put-varint-one as varint-put-varint-one}
+pub use Rattle.varint_write.proofs.Only.{prepend-varint-one as varint-prepend-varint-one}
+pub use Rattle.varint_signed.proofs.Only.{i64-to-unsigned-one as signed-i64-to-unsigned-one}
+pub use Rattle.varint_signed.proofs.Only.{u64-to-signed-one as signed-u64-to-signed-one}
 -- one field
-pub use Rattle.key.proofs.Only.{wire-type-of-one as key-wire-type-of-one}
-pub use Rattle.key.proofs.Only.{wire-number-one as key-wire-number-one}
-pub use Rattle.key.proofs.Only.{key-len-one as key-key-len-one}
-pub use Rattle.key.proofs.Only.{put-key-one as key-put-key-one}
-pub use Rattle.key.proofs.Only.{prepend-key-one as key-prepend-key-one}
-pub use Rattle.key.proofs.Only.{decode-key-one as key-decode-key-one}
-pub use Rattle.value.proofs.Only.{four-bytes-one as value-four-bytes-one}
-pub use Rattle.value.proofs.Only.{value-of-kind-one as value-value-of-kind-one}
-pub use Rattle.value.proofs.Only.{decode-value-one as value-decode-value-one}
+pub use Rattle.field_key.proofs.Only.{wire-type-of-one as key-wire-type-of-one}
+pub use Rattle.field_key.proofs.Only.{wire-number-one as key-wire-number-one}
+pub use Rattle.field_key.proofs.Only.{key-len-one as key-key-len-one}
+pub use Rattle.field_key.proofs.Only.{put-key-one as key-put-key-one}
+pub use Rattle.field_key.proofs.Only.{prepend-key-one as key-prepend-key-one}
+pub use Rattle.field_key.proofs.Only.{decode-key-one as key-decode-key-one}
+pub use Rattle.field_value.proofs.Only.{four-bytes-one as value-four-bytes-one}
+pub use Rattle.field_value.proofs.Only.{value-of-kind-one as value-value-of-kind-one}
+pub use Rattle.field_value.proofs.Only.{decode-value-one as value-decode-value-one}
 pub use Rattle.field.proofs.Only.{decode-field-one as field-decode-field-one}
 pub use Rattle.field.proofs.Only.{step-from-one as field-step-from-one}
-pub use Rattle.skip.proofs.Only.{skip-field-one as skip-skip-field-one}
+pub use Rattle.field_skip.proofs.Only.{skip-field-one as skip-skip-field-one}
 -- whole messages
 pub use Rattle.message.proofs.Only.{decide-one as message-decide-one}
 pub use Rattle.message.proofs.Only.{find-tag-one as message-find-tag-one}
-pub use Rattle.table.proofs.Only.{read-into-one as table-read-into-one}
-pub use Rattle.payload.proofs.Only.{payload-span-one as payload-payload-span-one}
+pub use Rattle.message_table.proofs.Only.{read-into-one as table-read-into-one}
+pub use Rattle.message_payload.proofs.Only.{payload-span-one as payload-payload-span-one}
 -- one record
-pub use Rattle.record.proofs.Only.{is-good-one as record-is-good-one}
-pub use Rattle.record.proofs.Only.{weigh-record-one as record-weigh-record-one}
+pub use Rattle.write_record.proofs.Only.{is-good-one as record-is-good-one}
+pub use Rattle.write_record.proofs.Only.{weigh-record-one as record-weigh-record-one}
 -- tables written
-pub use Rattle.writer.proofs.Only.{weigh-one as writer-weigh-one}
-pub use Rattle.writer.proofs.Only.{measure-one as writer-measure-one}
-pub use Rattle.writer.proofs.Only.{write-front-one as writer-write-front-one}
-pub use Rattle.writer.proofs.Only.{write-back-one as writer-write-back-one}
+pub use Rattle.write_message.proofs.Only.{weigh-one as writer-weigh-one}
+pub use Rattle.write_message.proofs.Only.{measure-one as writer-measure-one}
+pub use Rattle.write_message.proofs.Only.{write-front-one as writer-write-front-one}
+pub use Rattle.write_message.proofs.Only.{write-back-one as writer-write-back-one}
 -- a record put among others
-pub use Rattle.insertion.proofs.Only.{insert-record-one as insertion-insert-record-one}
+pub use Rattle.write_insertion.proofs.Only.{insert-record-one as insertion-insert-record-one}
 -- a tag looked for from the front
-pub use Rattle.early.proofs.Only.{find-early-one as early-find-early-one}
+pub use Rattle.message_early.proofs.Only.{find-early-one as early-find-early-one}
 -- what every reader tests first
-pub use Rattle.answer.proofs.Only.{gate-one as answer-gate-one}
+pub use Rattle.entry_answer.proofs.Only.{gate-one as answer-gate-one}
 -- the face
-pub use Rattle.entry_varint.proofs.Only.{encoded-len-varint-one}
 pub use Rattle.entry_varint.proofs.Only.{encode-varint-one}
 pub use Rattle.entry_varint.proofs.Only.{prepend-varint-one}
 pub use Rattle.entry_varint.proofs.Only.{decode-varint-one}
 pub use Rattle.entry_varint.proofs.Only.{decode-varint-capped-one}
-pub use Rattle.entry_varint.proofs.Only.{i64-to-unsigned-one}
-pub use Rattle.entry_varint.proofs.Only.{u64-to-signed-one}
-pub use Rattle.entry_key.proofs.Only.{wire-type-of-one}
-pub use Rattle.entry_key.proofs.Only.{wire-number-one}
 pub use Rattle.entry_key.proofs.Only.{decode-key-one}
 pub use Rattle.entry_key.proofs.Only.{encode-key-one}
 pub use Rattle.entry_key.proofs.Only.{prepend-key-one}
@@ -76,33 +71,33 @@ pub use Rattle.entry_write.proofs.Only.{prepend-message-one}
 pub use Rattle.entry_write.proofs.Only.{encoded-len-message-one}
 pub use Rattle.entry_write.proofs.Only.{insert-one}
 -- the reader that holds a message; of its first three, over the predicates that their contracts cite
-pub use Rattle.reader.proofs.Only.{make-one as reader-make-one}
-pub use Rattle.reader.proofs.Only.{has-more-one as reader-has-more-one}
-pub use Rattle.reader.proofs.Only.{take-step-one as reader-take-step-one}
-pub use Rattle.reader.proofs.Only.{step-through-one as reader-step-through-one}
-pub use Rattle.reader.proofs.Only.{count-fields-one as reader-count-fields-one}
+pub use Rattle.entry_reader.proofs.Only.{make-one as reader-make-one}
+pub use Rattle.entry_reader.proofs.Only.{has-more-one as reader-has-more-one}
+pub use Rattle.entry_reader.proofs.Only.{take-step-one as reader-take-step-one}
+pub use Rattle.entry_reader.proofs.Only.{step-through-one as reader-step-through-one}
+pub use Rattle.entry_reader.proofs.Only.{count-fields-one as reader-count-fields-one}
 -- a message read and written back
-pub use Rattle.copy.proofs.Only.{copy-message-one as copy-copy-message-one}
+pub use Rattle.entry_copy.proofs.Only.{copy-message-one as copy-copy-message-one}
 -- digits
-pub use Rattle.hex.proofs.Only.{digit-of-one as hex-digit-of-one}
-pub use Rattle.hex.proofs.Only.{frame-of-one as hex-frame-of-one}
-pub use Rattle.digits.proofs.Only.{put-hex-one as digits-put-hex-one}
-pub use Rattle.digits.proofs.Only.{put-decimal-one as digits-put-decimal-one}
-pub use Rattle.digits.proofs.Only.{put-hex-bytes-one as digits-put-hex-bytes-one}
+pub use Rattle.text_hex.proofs.Only.{digit-of-one as hex-digit-of-one}
+pub use Rattle.text_hex.proofs.Only.{frame-of-one as hex-frame-of-one}
+pub use Rattle.text_digits.proofs.Only.{put-hex-one as digits-put-hex-one}
+pub use Rattle.text_digits.proofs.Only.{put-decimal-one as digits-put-decimal-one}
+pub use Rattle.text_digits.proofs.Only.{put-hex-bytes-one as digits-put-hex-bytes-one}
 -- lines
-pub use Rattle.lines.proofs.Only.{more-one as lines-more-one}
-pub use Rattle.lines.proofs.Only.{take-line-one as lines-take-line-one}
+pub use Rattle.text_lines.proofs.Only.{more-one as lines-more-one}
+pub use Rattle.text_lines.proofs.Only.{take-line-one as lines-take-line-one}
 -- frames as text
-pub use Rattle.frames.proofs.Only.{put-frame-one as frames-put-frame-one}
+pub use Rattle.text_frames.proofs.Only.{put-frame-one as frames-put-frame-one}
 -- single fields as numbers
-pub use Rattle.single.proofs.Only.{find-one as single-find-one}
-pub use Rattle.single.proofs.Only.{need-one as single-need-one}
-pub use Rattle.single.proofs.Only.{bounded-one as single-bounded-one}
-pub use Rattle.single.proofs.Only.{measure-one as single-measure-one}
+pub use Rattle.sounding_value.proofs.Only.{find-one as single-find-one}
+pub use Rattle.sounding_value.proofs.Only.{need-one as single-need-one}
+pub use Rattle.sounding_value.proofs.Only.{bounded-one as single-bounded-one}
+pub use Rattle.sounding_value.proofs.Only.{measure-one as single-measure-one}
 -- soundings
 pub use Rattle.sounding.proofs.Only.{read-sounding-one as sounding-read-sounding-one}
 -- soundings as text
-pub use Rattle.columns.proofs.Only.{put-sounding-one as columns-put-sounding-one}
+pub use Rattle.sounding_text.proofs.Only.{put-sounding-one as columns-put-sounding-one}
 -- the face for C
 pub use Rattle.capgauze_c.proofs.Only.{encoded-len-varint-one as c-encoded-len-varint-one}
 pub use Rattle.capgauze_c.proofs.Only.{i64-to-unsigned-one as c-i64-to-unsigned-one}

@@ -21,14 +21,14 @@ use Rattle.wire.specs.declared.Field.{Field}
 use Rattle.wire.specs.declared.Early.{Early}
 use Rattle.wire.specs.declared.Early.the-variants as early
 use Rattle.message.specs.Tags.{ofTag}
-use Rattle.early.specs.Early.{above, only, earlyOf, stop}
-use Rattle.early.specs.Laws.{UpTo, lastOf, Stopped, at-end, at-key, not-read, stopped}
-use Rattle.answer.specs.Gate.{gated, through, through-open, through-shut, gated-open, gated-opens}
+use Rattle.message_early.specs.Early.{above, only, earlyOf, stop}
+use Rattle.message_early.specs.Laws.{UpTo, lastOf, Stopped, at-end, at-key, not-read, stopped}
+use Rattle.entry_answer.specs.Gate.{gated, through, through-open, through-shut, gated-open, gated-opens}
 use Rattle.entry_message.specs.Messages.{pickedOf, picked, pickEntry, earlyEntry}
-use Rattle.answer.specs.declared.Gated.{Gated}
-use Rattle.answer.specs.declared.Gated.the-variants.{Open, Shut}
-use Rattle.answer.specs.declared.Picked.{Picked}
-use Rattle.answer.specs.declared.Picked.the-variants as pickedAs
+use Rattle.entry_answer.specs.declared.Gated.{Gated}
+use Rattle.entry_answer.specs.declared.Gated.the-variants.{Open, Shut}
+use Rattle.entry_answer.specs.declared.Picked.{Picked}
+use Rattle.entry_answer.specs.declared.Picked.the-variants as pickedAs
 use Rattle.entry_message.proofs.pick_early.Kinds as kinds
 use Rattle.entry_message.proofs.pick_early.Reads as reads
 

@@ -17,15 +17,15 @@ use denote.Ref.{now}
 use Rattle.wire.specs.Limits.{messageLimit, recordWords}
 use Rattle.wire.specs.Places.{part}
 use Rattle.wire.specs.Table.{words, room, recordAt, fieldIn, fieldsFrom, good}
-use Rattle.wire.specs.Records.{tagBefore, judge, Fine, AllFine, tested, checked}
-use Rattle.wire.specs.RecordLaws.{judge-good, judge-fine, fine-at}
-use Rattle.wire.specs.Insertion.{spot, Aim, Puts, Refuses, aim, Insertion, inserted, inserts}
-use Rattle.wire.specs.InsertionLaws.{spot-inside, aim-puts, inserts-puts, inserts-refuses}
-use Rattle.wire.specs.WritingLaws.{checked-fine}
+use Rattle.write_record.specs.Records.{tagBefore, judge, Fine, AllFine, tested, checked}
+use Rattle.write_record.specs.RecordLaws.{judge-good, judge-fine, fine-at}
+use Rattle.write_insertion.specs.Insertion.{spot, Aim, Puts, Refuses, aim, Insertion, inserted, inserts}
+use Rattle.write_insertion.specs.InsertionLaws.{spot-inside, aim-puts, inserts-puts, inserts-refuses}
+use Rattle.write_message.specs.WritingLaws.{checked-fine}
 use Rattle.wire.specs.declared.Record.{Record}
 use Rattle.wire.specs.declared.Inserted.the-variants.{Count}
 use Rattle.place.specs.Place.{length-part}
-use Rattle.answer.specs.Told.{insertedTold}
+use Rattle.entry_answer.specs.Told.{insertedTold}
 use Rattle.entry_write.proofs.insert.Kinds as insert
 use Rattle.entry_write.proofs.insert.Reads as insert-reads
 

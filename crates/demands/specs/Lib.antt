@@ -12,3 +12,4 @@ pub mod SoundingVerdict
 pub mod Cases
 pub mod Determined
 pub mod Early
+pub mod Formats

@@ -13,14 +13,14 @@ use Rattle.wire.specs.Places.{part, items}
 use Rattle.wire.specs.Reading.{Message, Fields, readMessage}
 use Rattle.wire.specs.Reading as reading
 use Rattle.wire.specs.Theorem.{Written, accepted, unique, refused}
-use Rattle.wire.specs.Formats.{refused-format}
+use Rattle.demands.specs.Formats.{refused-format}
 use Rattle.wire.specs.Table.{room, filled, fieldsFrom, fields-records}
 use Rattle.wire.specs.declared.Refusal.{Refusal}
 use Rattle.wire.specs.declared.Field.{Field}
 use Rattle.wire.specs.declared.Read.{Read}
 use Rattle.wire.specs.declared.Read.the-variants.{Accepted, Refused}
-use Rattle.table.specs.Into.{Outcome, outcome, readInto, into-refused, into-fits}
-use Rattle.answer.specs.Told.{readTold}
+use Rattle.message_table.specs.Into.{Outcome, outcome, readInto, into-refused, into-fits}
+use Rattle.entry_answer.specs.Told.{readTold}
 use Rattle.entry_message.specs.Messages.{entry-open}
 use Rattle.demands.specs.Calls.{Call, message, start, end, table, answer, left}
 

@@ -15,11 +15,11 @@ use Rattle.wire.specs.Table.{records, room, filled, length-records}
 use Rattle.wire.specs.declared.Field.{Field}
 use Rattle.wire.specs.declared.Read.{Read}
 use Rattle.wire.specs.declared.Read.the-variants.{Accepted, Refused}
-use Rattle.table.specs.Into.{Outcome, outcome, readInto, into-refused, into-fits, into-no-room}
-use Rattle.answer.specs.declared.Gated.{Gated}
-use Rattle.answer.specs.declared.Gated.the-variants.{Open, Shut}
-use Rattle.answer.specs.Gate.{gated, through}
-use Rattle.answer.specs.Told.{readTold}
+use Rattle.message_table.specs.Into.{Outcome, outcome, readInto, into-refused, into-fits, into-no-room}
+use Rattle.entry_answer.specs.declared.Gated.{Gated}
+use Rattle.entry_answer.specs.declared.Gated.the-variants.{Open, Shut}
+use Rattle.entry_answer.specs.Gate.{gated, through}
+use Rattle.entry_answer.specs.Told.{readTold}
 use Rattle.entry_message.specs.Messages.{readEntry}
 use Rattle.demands.specs.Calls.{Call, message, start, end, table, answer, left}
 

@@ -10,8 +10,8 @@ use Rattle.wire.specs.Varint.{Sum, Adds, Stops, sum, encode}
 use Rattle.wire.specs.Reading.{varintAt, cappedAt, keyAt, fieldAt, wireOf}
 use Rattle.wire.specs.Skipping.{pastAt, repeats}
 use Rattle.wire.specs.Table.{room, recordAt, good}
-use Rattle.wire.specs.Records.{tagBefore}
-use Rattle.wire.specs.Records as records
+use Rattle.write_record.specs.Records.{tagBefore}
+use Rattle.write_record.specs.Records as records
 use Rattle.wire.specs.declared.Refusal.the-variants.{Truncated, InvalidVarint, TagOverflowed, TooLong, NoRoom, BadRecord, OutOfOrder, BadCap, Repeated}
 use Rattle.wire.specs.declared.WireType.{WireType}
 use Rattle.wire.specs.declared.WireType.the-variants.{Varint, LengthDelimited, ThirtyTwoBit, SixtyFourBit}
@@ -25,9 +25,9 @@ use Rattle.wire.specs.declared.Reached.{Reached}
 use Rattle.wire.specs.declared.Reached.the-variants as reached
 use Rattle.wire.specs.declared.Field.{Field}
 use Rattle.wire.specs.declared.Record.{Record}
-use Rattle.payload.specs.Payload.{payload}
+use Rattle.message_payload.specs.Payload.{payload}
 use Rattle.message.specs.Tags.{ofTag}
-use Rattle.early.specs.Early as early
+use Rattle.message_early.specs.Early as early
 use Rattle.entry_key.specs.Keys.{keyBytes}
 use Rattle.demands.specs.Order.{Rule, when}
 

@@ -15,7 +15,7 @@ use Rattle.wire.specs.Reading as reading
 use Rattle.wire.specs.Theorem.{refused-fields}
 use Rattle.wire.specs.Skipping.{inSlice, pastNumber, pastPayload, pastAt, repeats, beyond, skipFrom}
 use Rattle.wire.specs.Table.{room, recordAt, good}
-use Rattle.wire.specs.Records.{tagBefore, Judged, Fine, Bad, judge, Verdict, AllFine, First, andThen, tested, checked}
+use Rattle.write_record.specs.Records.{tagBefore, Judged, Fine, Bad, judge, Verdict, AllFine, First, andThen, tested, checked}
 use Rattle.wire.specs.declared.Refusal.the-variants.{Truncated, InvalidVarint, TagOverflowed}
 use Rattle.wire.specs.declared.WireType.{WireType}
 use Rattle.wire.specs.declared.WireType.the-variants.{Varint, LengthDelimited, ThirtyTwoBit, SixtyFourBit}
@@ -33,8 +33,8 @@ use Rattle.wire.specs.declared.Stepped.{Stepped}
 use Rattle.wire.specs.declared.Stepped.the-variants as stepped
 use Rattle.wire.specs.declared.Reached.{Reached}
 use Rattle.wire.specs.declared.Reached.the-variants as reached
-use Rattle.early.specs.Early.{sightOf, sightAt, Stop, Ends, Above, also, stopsFrom}
-use Rattle.early.specs.Early as early
+use Rattle.message_early.specs.Early.{sightOf, sightAt, Stop, Ends, Above, also, stopsFrom}
+use Rattle.message_early.specs.Early as early
 use Rattle.demands.specs.Order.{Rule, when, firstOf, orElse, refused-first, first-behind}
 use Rattle.demands.specs.Rules.{runsOut, tooLarge, sumAt, varintRules, cappedRules, overflows, keyRules, bytesRules, payloadRules, valueRules, behindKey, fieldRules, endRules, stepRules, behindField, fieldsRules, messageRules, oneMore, fieldsRead, earlyRules, earlyRead, skippedPayload, pastRules, beyondRules, skipRules, recordRules, recordsRules, orderT}
 

@@ -12,9 +12,9 @@ use Rattle.wire.specs.declared.Value.{Value}
 use Rattle.wire.specs.declared.Value.the-variants.{Varint, LengthDelimited, ThirtyTwoBit, SixtyFourBit}
 use Rattle.wire.specs.declared.Field.{Field}
 use Rattle.message.specs.Tags.{ofTag}
-use Rattle.single.specs.Values.{allOnes, inRange}
-use Rattle.single.specs.declared.Quantity.{Quantity}
-use Rattle.single.specs.declared.Quantity.the-variants.{Temperature, Depression}
+use Rattle.sounding_value.specs.Values.{allOnes, inRange}
+use Rattle.sounding_value.specs.declared.Quantity.{Quantity}
+use Rattle.sounding_value.specs.declared.Quantity.the-variants.{Temperature, Depression}
 use Rattle.sounding.specs.Words.{levelRoom}
 use Rattle.demands.specs.Order.{Rule, when}
 use Rattle.demands.specs.Rules.{orderR, messageRules, fieldsIn}

@@ -20,17 +20,17 @@ use Rattle.wire.specs.declared.Value.the-variants.{Varint, LengthDelimited, Thi
 use Rattle.wire.specs.declared.Field.{Field}
 use Rattle.message.specs.Tags.{ofTag}
 use Rattle.entry_message.specs.Messages.{pickedOf}
-use Rattle.single.specs.Values.{entered, numberPicked, sent, needed, between, allOnes, inRange, measured}
-use Rattle.single.specs.Values as values
-use Rattle.single.specs.declared.Single.{Single}
-use Rattle.single.specs.declared.Single.the-variants as single
-use Rattle.single.specs.declared.NumberFound.{NumberFound}
-use Rattle.single.specs.declared.NumberFound.the-variants as numberFound
-use Rattle.single.specs.declared.Measured.the-variants.{Missing}
-use Rattle.single.specs.declared.MeasuredFound.{MeasuredFound}
-use Rattle.single.specs.declared.MeasuredFound.the-variants as measuredFound
-use Rattle.single.specs.declared.Quantity.{Quantity}
-use Rattle.single.specs.declared.Quantity.the-variants.{Temperature, Depression}
+use Rattle.sounding_value.specs.Values.{entered, numberPicked, sent, needed, between, allOnes, inRange, measured}
+use Rattle.sounding_value.specs.Values as values
+use Rattle.sounding_value.specs.declared.Single.{Single}
+use Rattle.sounding_value.specs.declared.Single.the-variants as single
+use Rattle.sounding_value.specs.declared.NumberFound.{NumberFound}
+use Rattle.sounding_value.specs.declared.NumberFound.the-variants as numberFound
+use Rattle.sounding_value.specs.declared.Measured.the-variants.{Missing}
+use Rattle.sounding_value.specs.declared.MeasuredFound.{MeasuredFound}
+use Rattle.sounding_value.specs.declared.MeasuredFound.the-variants as measuredFound
+use Rattle.sounding_value.specs.declared.Quantity.{Quantity}
+use Rattle.sounding_value.specs.declared.Quantity.the-variants.{Temperature, Depression}
 use Rattle.sounding.specs.Soundings.{levelOf, level, levelIn, Levels, All, Refused, also, each, levels, headOf, head, Judgement, judged, judge, opened}
 use Rattle.sounding.specs.Words.{levelRoom, Outcome, stored, readSounding}
 use Rattle.sounding.specs.Promises.{each-all}

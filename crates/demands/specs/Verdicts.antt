@@ -18,10 +18,10 @@ use Rattle.wire.specs.Reading.{varintAt, cappedAt, keyAt, valueAt, stepAt, Mess
 use Rattle.wire.specs.Reading as reading
 use Rattle.wire.specs.Skipping.{skipAt}
 use Rattle.wire.specs.Table.{room, good}
-use Rattle.wire.specs.Records.{Verdict, AllFine, First, checked}
-use Rattle.wire.specs.Records as records
-use Rattle.wire.specs.Writing.{passed, plan, measured, Writing, into, front, back}
-use Rattle.wire.specs.Insertion.{aimed, aim, Insertion, inserts}
+use Rattle.write_record.specs.Records.{Verdict, AllFine, First, checked}
+use Rattle.write_record.specs.Records as records
+use Rattle.write_message.specs.Writing.{passed, plan, measured, Writing, into, front, back}
+use Rattle.write_insertion.specs.Insertion.{aimed, aim, Insertion, inserts}
 use Rattle.wire.specs.declared.Refusal.{Refusal}
 use Rattle.wire.specs.declared.Refusal.the-variants.{Truncated, TooLong, NoRoom, OutOfOrder, Repeated}
 use Rattle.wire.specs.declared.Record.{Record}
@@ -40,39 +40,39 @@ use Rattle.wire.specs.declared.Stepped.{Stepped}
 use Rattle.wire.specs.declared.Stepped.the-variants as stepped
 use Rattle.wire.specs.declared.Reached.{Reached}
 use Rattle.wire.specs.declared.Reached.the-variants as reached
-use Rattle.table.specs.Into.{Outcome, outcome, landed, readInto}
-use Rattle.payload.specs.Payload.{payload}
+use Rattle.message_table.specs.Into.{Outcome, outcome, landed, readInto}
+use Rattle.message_payload.specs.Payload.{payload}
 use Rattle.message.specs.Tags.{ofTag, atNumber, sought}
 use Rattle.message.specs.Tags as tags
-use Rattle.early.specs.Early.{Stop, Ends, Above, stop, only, earlyOf}
-use Rattle.early.specs.Early as early
-use Rattle.answer.specs.Gate.{gated, through}
+use Rattle.message_early.specs.Early.{Stop, Ends, Above, stop, only, earlyOf}
+use Rattle.message_early.specs.Early as early
+use Rattle.entry_answer.specs.Gate.{gated, through}
 use Rattle.entry_varint.specs.Varints.{varintRead, decodeVarint, decodeVarintCapped}
 use Rattle.entry_key.specs.Keys.{keyAnswer, decodeKey, keyBytes, keyAtFront, keyAtEnd, keyLen}
 use Rattle.entry_field.specs.Fields.{valueAnswer, decodeValue, skipAnswer, skipField, stepAnswer, stepEntry}
-use Rattle.answer.specs.Stores.{Stored, roomFor, atFront, atEnd}
+use Rattle.entry_answer.specs.Stores.{Stored, roomFor, atFront, atEnd}
 use Rattle.entry_field.specs.Test.{moreOf, moreEntry}
 use Rattle.entry_message.specs.Messages.{readEntry, readPayload, pickedOf, picked, pickEntry, severalOf, severalEntry, earlyEntry}
-use Rattle.answer.specs.Told.{putTold, varintTold, measuredTold, keyTold, valueTold, skippedTold, stepTold, readTold, pickedTold, severalTold, earlyTold, writtenTold, insertedTold}
-use Rattle.answer.specs.declared.Put.the-variants as put
-use Rattle.answer.specs.declared.VarintRead.{VarintRead}
-use Rattle.answer.specs.declared.VarintRead.the-variants as varintAnswer
-use Rattle.answer.specs.declared.KeyRead.{KeyRead}
-use Rattle.answer.specs.declared.KeyRead.the-variants as keyRead
-use Rattle.answer.specs.declared.ValueRead.{ValueRead}
-use Rattle.answer.specs.declared.ValueRead.the-variants as valueRead
-use Rattle.answer.specs.declared.Skipped.{Skipped}
-use Rattle.answer.specs.declared.Skipped.the-variants as skipped
-use Rattle.answer.specs.declared.Step.{Step}
-use Rattle.answer.specs.declared.Step.the-variants as step
-use Rattle.answer.specs.declared.More.{More}
-use Rattle.answer.specs.declared.More.the-variants as more
-use Rattle.answer.specs.declared.Measured.{Measured}
-use Rattle.answer.specs.declared.Measured.the-variants as measuredAs
-use Rattle.answer.specs.declared.Picked.{Picked}
-use Rattle.answer.specs.declared.Picked.the-variants as pickedAs
-use Rattle.answer.specs.declared.Several.{Several}
-use Rattle.answer.specs.declared.Several.the-variants as severalAs
+use Rattle.entry_answer.specs.Told.{putTold, varintTold, measuredTold, keyTold, valueTold, skippedTold, stepTold, readTold, pickedTold, severalTold, earlyTold, writtenTold, insertedTold}
+use Rattle.entry_answer.specs.declared.Put.the-variants as put
+use Rattle.entry_answer.specs.declared.VarintRead.{VarintRead}
+use Rattle.entry_answer.specs.declared.VarintRead.the-variants as varintAnswer
+use Rattle.entry_answer.specs.declared.KeyRead.{KeyRead}
+use Rattle.entry_answer.specs.declared.KeyRead.the-variants as keyRead
+use Rattle.entry_answer.specs.declared.ValueRead.{ValueRead}
+use Rattle.entry_answer.specs.declared.ValueRead.the-variants as valueRead
+use Rattle.entry_answer.specs.declared.Skipped.{Skipped}
+use Rattle.entry_answer.specs.declared.Skipped.the-variants as skipped
+use Rattle.entry_answer.specs.declared.Step.{Step}
+use Rattle.entry_answer.specs.declared.Step.the-variants as step
+use Rattle.entry_answer.specs.declared.More.{More}
+use Rattle.entry_answer.specs.declared.More.the-variants as more
+use Rattle.entry_answer.specs.declared.Measured.{Measured}
+use Rattle.entry_answer.specs.declared.Measured.the-variants as measuredAs
+use Rattle.entry_answer.specs.declared.Picked.{Picked}
+use Rattle.entry_answer.specs.declared.Picked.the-variants as pickedAs
+use Rattle.entry_answer.specs.declared.Several.{Several}
+use Rattle.entry_answer.specs.declared.Several.the-variants as severalAs
 use Rattle.demands.specs.Order.{Rule, when, firstOf, Numbered, orElse, refused-first, ordered}
 use Rattle.demands.specs.Rules.{orderR, varintRules, cappedRules, keyRules, valueRules, stepRules, skipRules, messageRules, tableRules, roomRules, outputRule, newRules}
 use Rattle.demands.specs.Rules.{decodeVarintOrder, decodeVarintCappedOrder, decodeKeyOrder, decodeValueOrder, skipFieldOrder, stepAtOrder, moreAtOrder, readMessageOrder, readPayloadOrder, fieldsIn, earlyRules, earlyRead, repeatedRules, pickOrder, pickAtOrder, pickEarlyOrder}

@@ -17,18 +17,18 @@ use Rattle.wire.specs.Places.{items}
 use Rattle.wire.specs.Reading.{Message, Fields, readMessage}
 use Rattle.wire.specs.Reading as reading
 use Rattle.wire.specs.Theorem.{accepted}
-use Rattle.wire.specs.Formats.{refused-format}
+use Rattle.demands.specs.Formats.{refused-format}
 use Rattle.wire.specs.Table.{room, filled}
-use Rattle.wire.specs.Records.{AllFine, checked}
-use Rattle.wire.specs.Records as records
-use Rattle.wire.specs.Writing.{Plan, Writes, Refuses, plan, Writing, into, front, back}
-use Rattle.wire.specs.WritingLaws.{plan-fine, into-writes}
-use Rattle.wire.specs.ReadBack.{table-plan}
+use Rattle.write_record.specs.Records.{AllFine, checked}
+use Rattle.write_record.specs.Records as records
+use Rattle.write_message.specs.Writing.{Plan, Writes, Refuses, plan, Writing, into, front, back}
+use Rattle.write_message.specs.WritingLaws.{plan-fine, into-writes}
+use Rattle.write_message.specs.ReadBack.{table-plan}
 use Rattle.wire.specs.declared.Field.{Field}
 use Rattle.wire.specs.declared.Read.{Read}
 use Rattle.wire.specs.declared.Written.the-variants.{At}
-use Rattle.table.specs.Into.{Outcome, outcome, readInto, into-refused, into-fits}
-use Rattle.answer.specs.Told.{readTold, writtenTold}
+use Rattle.message_table.specs.Into.{Outcome, outcome, readInto, into-refused, into-fits}
+use Rattle.entry_answer.specs.Told.{readTold, writtenTold}
 use Rattle.entry_message.specs.Messages.{entry-open}
 use Rattle.entry_write.proofs.encode_message.Kinds as encode
 use Rattle.entry_write.proofs.encode_message.Reads as encode-reads

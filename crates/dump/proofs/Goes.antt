@@ -4,13 +4,13 @@ use mathlib.Core.Path.{_≡_, refl, ap, _∙_, sym}
 use mathlib.Core.List.{List}
 use native.Mathlib.Omega.{arith}
 use lib.ListN.{length, drop}
-use Rattle.lines.specs.Lines.{more, Taking, takeLine}
-use Rattle.lines.specs.LineLaws.{moves, Keeps}
-use Rattle.lines.specs.declared.Taken.{Taken}
-use Rattle.lines.specs.declared.Taken.the-variants.{Line, Part}
-use Rattle.frames.specs.Print.{frameRoom, Printing, printFrame}
-use Rattle.frames.specs.PrintLaws.{print-inside}
-use Rattle.frames.specs.DumpLaws.{Ready, Filled, fill-start, fill-line, fill-part}
+use Rattle.text_lines.specs.Lines.{more, Taking, takeLine}
+use Rattle.text_lines.specs.LineLaws.{moves, Keeps}
+use Rattle.text_lines.specs.declared.Taken.{Taken}
+use Rattle.text_lines.specs.declared.Taken.the-variants.{Line, Part}
+use Rattle.text_frames.specs.Print.{frameRoom, Printing, printFrame}
+use Rattle.text_frames.specs.PrintLaws.{print-inside}
+use Rattle.text_frames.specs.DumpLaws.{Ready, Filled, fill-start, fill-line, fill-part}
 use Rattle.dump.specs.Fills.{Fills}
 use Rattle.dump.specs.declared.State.{State}
 

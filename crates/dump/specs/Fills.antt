@@ -3,8 +3,8 @@ use Prim.Native.Nat.{ℕ, _≤_}
 use mathlib.Core.Path.{_≡_}
 use mathlib.Core.List.{List}
 use lib.ListN.{length, drop}
-use Rattle.lines.specs.LineLaws.{Keeps}
-use Rattle.frames.specs.DumpLaws.{Filled}
+use Rattle.text_lines.specs.LineLaws.{Keeps}
+use Rattle.text_frames.specs.DumpLaws.{Filled}
 use Rattle.dump.specs.declared.State.{State}
 
 pub record Fills (block line out : List ℕ) (s : State) (line′ out′ : List ℕ) (r : State) : Type 0 where

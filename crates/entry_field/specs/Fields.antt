@@ -11,13 +11,13 @@ use Rattle.wire.specs.declared.Reached.{Reached}
 use Rattle.wire.specs.declared.Reached.the-variants as reached
 use Rattle.wire.specs.declared.Stepped.{Stepped}
 use Rattle.wire.specs.declared.Stepped.the-variants as stepped
-use Rattle.answer.specs.Gate.{gated, through}
-use Rattle.answer.specs.declared.ValueRead.{ValueRead}
-use Rattle.answer.specs.declared.ValueRead.the-variants as valueRead
-use Rattle.answer.specs.declared.Skipped.{Skipped}
-use Rattle.answer.specs.declared.Skipped.the-variants as skipped
-use Rattle.answer.specs.declared.Step.{Step}
-use Rattle.answer.specs.declared.Step.the-variants as step
+use Rattle.entry_answer.specs.Gate.{gated, through}
+use Rattle.entry_answer.specs.declared.ValueRead.{ValueRead}
+use Rattle.entry_answer.specs.declared.ValueRead.the-variants as valueRead
+use Rattle.entry_answer.specs.declared.Skipped.{Skipped}
+use Rattle.entry_answer.specs.declared.Skipped.the-variants as skipped
+use Rattle.entry_answer.specs.declared.Step.{Step}
+use Rattle.entry_answer.specs.declared.Step.the-variants as step
 
 abbrev pub valueAnswer : ℕ → ValueFound → ValueRead
 valueAnswer at (valueFound.Got v q) = valueRead.Got v q

@@ -13,14 +13,14 @@ use Rattle.wire.specs.declared.Refusal.{Refusal}
 use Rattle.wire.specs.declared.Refusal.the-variants.{Truncated}
 use Rattle.wire.specs.declared.FieldFound.{FieldFound}
 use Rattle.wire.specs.declared.FieldFound.the-variants as fieldFound
-use Rattle.answer.specs.Gate.{gated, through}
+use Rattle.entry_answer.specs.Gate.{gated, through}
 use Rattle.entry_field.specs.Fields.{stepAnswer, stepEntry}
-use Rattle.answer.specs.declared.Gated.{Gated}
-use Rattle.answer.specs.declared.Gated.the-variants.{Open, Shut}
-use Rattle.answer.specs.declared.Step.{Step}
-use Rattle.answer.specs.declared.Step.the-variants as step
-use Rattle.answer.specs.declared.More.{More}
-use Rattle.answer.specs.declared.More.the-variants as more
+use Rattle.entry_answer.specs.declared.Gated.{Gated}
+use Rattle.entry_answer.specs.declared.Gated.the-variants.{Open, Shut}
+use Rattle.entry_answer.specs.declared.Step.{Step}
+use Rattle.entry_answer.specs.declared.Step.the-variants as step
+use Rattle.entry_answer.specs.declared.More.{More}
+use Rattle.entry_answer.specs.declared.More.the-variants as more
 
 -- the place before the end: there is more; at it: there is not; past it: Truncated
 unfoldable pub moreOf : ℕ → ℕ → More

@@ -2,11 +2,11 @@
 ghost use mathlib.Core.Path.{_≡_};
 ghost use Rattle.entry_field.specs.Fields.{decodeValue, skipField, stepEntry};
 ghost use Rattle.entry_field.specs.Test.{moreEntry};
-use answer::Gated;
-use answer::More;
-use answer::Skipped;
-use answer::Step;
-use answer::ValueRead;
+use entry_answer::Gated;
+use entry_answer::More;
+use entry_answer::Skipped;
+use entry_answer::Step;
+use entry_answer::ValueRead;
 use wire::Field;
 use wire::Reached;
 use wire::Refusal;
@@ -18,10 +18,10 @@ use wire::WireType;
 pub fn decode_value(s: &[u8], at: usize, end: usize, wire: WireType) -> ValueRead
     ensures { λ r. ⌜ r ≡ decodeValue (now (s .entry)) at end wire ⌝ }
 {
-    if let Gated::Shut(r) = answer::gate(s.len(), at, end) {
+    if let Gated::Shut(r) = entry_answer::gate(s.len(), at, end) {
         return ValueRead::Refused(r, at);
     }
-    match value::decode_value(s, at, end, wire) {
+    match field_value::decode_value(s, at, end, wire) {
         ValueFound::Got(v, next) => ValueRead::Got(v, next),
         ValueFound::Refused(r) => ValueRead::Refused(r, at),
     }
@@ -31,10 +31,10 @@ pub fn decode_value(s: &[u8], at: usize, end: usize, wire: WireType) -> ValueRea
 pub fn skip_field(s: &[u8], at: usize, end: usize, wire: WireType) -> Skipped
     ensures { λ r. ⌜ r ≡ skipField (now (s .entry)) at end wire ⌝ }
 {
-    if let Gated::Shut(r) = answer::gate(s.len(), at, end) {
+    if let Gated::Shut(r) = entry_answer::gate(s.len(), at, end) {
         return Skipped::Refused(r, at);
     }
-    match skip::skip_field(s, at, end, wire) {
+    match field_skip::skip_field(s, at, end, wire) {
         Reached::To(q) => Skipped::To(q),
         Reached::Refused(r) => Skipped::Refused(r, at),
     }
@@ -44,7 +44,7 @@ pub fn skip_field(s: &[u8], at: usize, end: usize, wire: WireType) -> Skipped
 pub fn step_at(s: &[u8], at: usize, end: usize, last: u32) -> Step
     ensures { λ r. ⌜ r ≡ stepEntry (now (s .entry)) at end last ⌝ }
 {
-    if let Gated::Shut(r) = answer::gate(s.len(), at, end) {
+    if let Gated::Shut(r) = entry_answer::gate(s.len(), at, end) {
         return Step::Refused(r, at, last);
     }
     match field::step_from(s, at, end, last) {
@@ -58,7 +58,7 @@ pub fn step_at(s: &[u8], at: usize, end: usize, last: u32) -> Step
 pub fn more_at(s: &[u8], at: usize, end: usize) -> More
     ensures { λ r. ⌜ r ≡ moreEntry (now (s .entry)) at end ⌝ }
 {
-    if let Gated::Shut(r) = answer::gate(s.len(), at, end) {
+    if let Gated::Shut(r) = entry_answer::gate(s.len(), at, end) {
         return More::Refused(r);
     }
     if at < end {

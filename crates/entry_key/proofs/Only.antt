@@ -2,7 +2,7 @@
 use mathlib.Core.Path.{_∙_, sym}
 use denote.Ref.{now}
 use Rattle.wire.specs.Only.{One}
-use Rattle.answer.specs.Stores.{Stored}
+use Rattle.entry_answer.specs.Stores.{Stored}
 use Rattle.entry_key.proofs.decode_key.Kinds as decode-key
 use Rattle.entry_key.proofs.decode_key.Reads as decode-key-reads
 use Rattle.entry_key.proofs.encode_key.Kinds as encode-key
@@ -11,16 +11,6 @@ use Rattle.entry_key.proofs.prepend_key.Kinds as prepend-key
 use Rattle.entry_key.proofs.prepend_key.Reads as prepend-key-reads
 use Rattle.entry_key.proofs.key_len.Kinds as key-len
 use Rattle.entry_key.proofs.key_len.Reads as key-len-reads
-use Rattle.entry_key.proofs.wire_type_of.Kinds as wire-type-of
-use Rattle.entry_key.proofs.wire_type_of.Reads as wire-type-of-reads
-use Rattle.entry_key.proofs.wire_number.Kinds as wire-number
-use Rattle.entry_key.proofs.wire_number.Reads as wire-number-reads
-
-pub wire-type-of-one : One 0 wire-type-of.ps wire-type-of.r wire-type-of-reads.Post (λ κs r s. r)
-wire-type-of-one κs a x y s t p q = p ∙ sym q
-
-pub wire-number-one : One 0 wire-number.ps wire-number.r wire-number-reads.Post (λ κs r s. r)
-wire-number-one κs a x y s t p q = p ∙ sym q
 
 pub decode-key-one : One 1 decode-key.ps decode-key.r decode-key-reads.Post (λ κs r s. r)
 decode-key-one κs a x y s t p q = p ∙ sym q

@@ -13,13 +13,13 @@ use Rattle.wire.specs.declared.Refusal.the-variants.{OutOfOrder}
 use Rattle.wire.specs.declared.WireType.{WireType}
 use Rattle.wire.specs.declared.KeyFound.{KeyFound}
 use Rattle.wire.specs.declared.KeyFound.the-variants as keyFound
-use Rattle.answer.specs.Gate.{gated, through}
-use Rattle.answer.specs.Stores.{Stored, atFront, atEnd}
-use Rattle.answer.specs.declared.Put.the-variants as put
-use Rattle.answer.specs.declared.KeyRead.{KeyRead}
-use Rattle.answer.specs.declared.KeyRead.the-variants as keyRead
-use Rattle.answer.specs.declared.Measured.{Measured}
-use Rattle.answer.specs.declared.Measured.the-variants as measured
+use Rattle.entry_answer.specs.Gate.{gated, through}
+use Rattle.entry_answer.specs.Stores.{Stored, atFront, atEnd}
+use Rattle.entry_answer.specs.declared.Put.the-variants as put
+use Rattle.entry_answer.specs.declared.KeyRead.{KeyRead}
+use Rattle.entry_answer.specs.declared.KeyRead.the-variants as keyRead
+use Rattle.entry_answer.specs.declared.Measured.{Measured}
+use Rattle.entry_answer.specs.declared.Measured.the-variants as measured
 
 -- ---- read
 

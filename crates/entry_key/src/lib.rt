@@ -1,39 +1,22 @@
 // The entries on keys. Each tests its refusals in their order and hands the rest to a core.
 ghost use mathlib.Core.Path.{_≡_};
-ghost use Prim.Native.Nat.{_%_};
-ghost use Rattle.wire.specs.Numbers.{typeOf};
-ghost use Rattle.wire.specs.Reading.{wireOf};
 ghost use Rattle.entry_key.specs.Keys.{decodeKey, keyAtFront, keyAtEnd, keyLen};
-use answer::Gated;
-use answer::KeyRead;
-use answer::Measured;
-use answer::Put;
+use entry_answer::Gated;
+use entry_answer::KeyRead;
+use entry_answer::Measured;
+use entry_answer::Put;
 use wire::KeyFound;
 use wire::Refusal;
 use wire::WireType;
-
-// The wire type that a key's last two bits name.
-pub fn wire_type_of(key: u64) -> WireType
-    ensures { λ r. ⌜ r ≡ wireOf (key % 4) ⌝ }
-{
-    key::wire_type_of(key)
-}
-
-// A wire type's number.
-pub fn wire_number(wire: WireType) -> u64
-    ensures { λ r. ⌜ r ≡ typeOf wire ⌝ }
-{
-    key::wire_number(wire)
-}
 
 // The key at a place, under an end and after a last tag. The place after it may be past the end.
 pub fn decode_key(s: &[u8], at: usize, end: usize, last: u32) -> KeyRead
     ensures { λ r. ⌜ r ≡ decodeKey (now (s .entry)) at end last ⌝ }
 {
-    if let Gated::Shut(r) = answer::gate(s.len(), at, end) {
+    if let Gated::Shut(r) = entry_answer::gate(s.len(), at, end) {
         return KeyRead::Refused(r, at, last);
     }
-    match key::decode_key(s, at, end, last) {
+    match field_key::decode_key(s, at, end, last) {
         KeyFound::Got(k, next) => KeyRead::Got(k, next),
         KeyFound::Refused(r) => KeyRead::Refused(r, at, last),
     }
@@ -46,7 +29,7 @@ pub fn encode_key(last: u32, tag: u32, wire: WireType, buf: &mut [u8]) -> Put
     if tag < last {
         return Put::Refused(Refusal::OutOfOrder);
     }
-    let n = key::put_key(buf, 0, last, tag, wire);
+    let n = field_key::put_key(buf, 0, last, tag, wire);
     if n == 0 {
         return Put::Refused(Refusal::NoRoom);
     }
@@ -61,7 +44,7 @@ pub fn prepend_key(last: u32, tag: u32, wire: WireType, buf: &mut [u8]) -> Put
         return Put::Refused(Refusal::OutOfOrder);
     }
     let end = buf.len();
-    let start = key::prepend_key(buf, end, last, tag, wire);
+    let start = field_key::prepend_key(buf, end, last, tag, wire);
     if start == end {
         return Put::Refused(Refusal::NoRoom);
     }
@@ -75,5 +58,5 @@ pub fn key_len(last: u32, tag: u32) -> Measured
     if tag < last {
         return Measured::Refused(Refusal::OutOfOrder);
     }
-    Measured::Length(key::key_len(last, tag))
+    Measured::Length(field_key::key_len(last, tag))
 }

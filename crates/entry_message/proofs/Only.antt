@@ -2,7 +2,7 @@
 use mathlib.Core.Path.{_∙_, sym}
 use denote.Ref.{now}
 use Rattle.wire.specs.Only.{One}
-use Rattle.table.specs.Into.{Outcome}
+use Rattle.message_table.specs.Into.{Outcome}
 use Rattle.entry_message.specs.Messages.{partOf}
 use Rattle.entry_message.proofs.read_message.Kinds as read-message
 use Rattle.entry_message.proofs.read_message.Reads as read-message-reads

@@ -17,20 +17,20 @@ use Rattle.wire.specs.declared.Record.{Record}
 use Rattle.wire.specs.declared.Read.the-variants.{Refused}
 use Rattle.wire.specs.declared.Early.{Early}
 use Rattle.wire.specs.declared.Early.the-variants as early
-use Rattle.early.specs.Early.{stop, earlyOf}
-use Rattle.table.specs.Into.{Outcome, outcome, readInto}
+use Rattle.message_early.specs.Early.{stop, earlyOf}
+use Rattle.message_table.specs.Into.{Outcome, outcome, readInto}
 use Rattle.message.specs.Tags.{ofTag, atNumber, sought}
-use Rattle.payload.specs.Payload.{spanOf, payload}
-use Rattle.payload.specs.declared.Span.{Span}
+use Rattle.message_payload.specs.Payload.{spanOf, payload}
+use Rattle.message_payload.specs.declared.Span.{Span}
 use Rattle.message.specs.declared.Sought.{Sought}
 use Rattle.message.specs.declared.Sought.the-variants as soughtAs
-use Rattle.answer.specs.Gate.{gated, through, through-open, gated-open}
-use Rattle.answer.specs.declared.Gated.{Gated}
-use Rattle.answer.specs.declared.Gated.the-variants.{Open, Shut}
-use Rattle.answer.specs.declared.Picked.{Picked}
-use Rattle.answer.specs.declared.Picked.the-variants as pickedAs
-use Rattle.answer.specs.declared.Several.{Several}
-use Rattle.answer.specs.declared.Several.the-variants as severalAs
+use Rattle.entry_answer.specs.Gate.{gated, through, through-open, gated-open}
+use Rattle.entry_answer.specs.declared.Gated.{Gated}
+use Rattle.entry_answer.specs.declared.Gated.the-variants.{Open, Shut}
+use Rattle.entry_answer.specs.declared.Picked.{Picked}
+use Rattle.entry_answer.specs.declared.Picked.the-variants as pickedAs
+use Rattle.entry_answer.specs.declared.Several.{Several}
+use Rattle.entry_answer.specs.declared.Several.the-variants as severalAs
 
 -- ---- a message read into a table
 

@@ -1,9 +1,9 @@
 // The entries on whole messages. Each tests its refusals in their order and hands the rest to a core.
 ghost use mathlib.Core.Path.{_≡_};
 ghost use Rattle.entry_message.specs.Messages.{partOf, readEntry, payloadPart, readPayload, pickEntry, severalEntry, earlyEntry};
-use answer::Gated;
-use answer::Picked;
-use answer::Several;
+use entry_answer::Gated;
+use entry_answer::Picked;
+use entry_answer::Several;
 use message::Sought;
 use wire::Early;
 use wire::Read;
@@ -14,10 +14,10 @@ use wire::Refusal;
 pub fn read_message(s: &[u8], start: usize, end: usize, table: &mut [u64]) -> Read
     ensures { λ r. ⌜ record { answer = r; table = now (table .exit) } ≡ readEntry (now (s .entry)) start end (now (table .entry)) ⌝ }
 {
-    if let Gated::Shut(r) = answer::gate(s.len(), start, end) {
+    if let Gated::Shut(r) = entry_answer::gate(s.len(), start, end) {
         return Read::Refused(r, 0, 0);
     }
-    table::read_into(s, start, end, table)
+    message_table::read_into(s, start, end, table)
 }
 
 // A record's payload: the part of the message, not a copy. A record that is not a good LengthDelimited one of this message has the empty
@@ -25,7 +25,7 @@ pub fn read_message(s: &[u8], start: usize, end: usize, table: &mut [u64]) -> Re
 pub fn payload_of<'a>(message: &'a [u8], r: Record) -> &'a [u8]
     ensures { λ p. ⌜ partOf p ≡ payloadPart (message .entry) r ⌝ }
 {
-    let p = payload::payload_span(message.len(), r);
+    let p = message_payload::payload_span(message.len(), r);
     let start = p.start;
     let end = start + p.length;
     &message[start..end]
@@ -44,7 +44,7 @@ pub fn read_payload(message: &[u8], r: Record, table: &mut [u64]) -> Read
 pub fn pick_at(s: &[u8], tag: u32, number: usize) -> Several
     ensures { λ r. ⌜ r ≡ severalEntry (now (s .entry)) tag number ⌝ }
 {
-    if let Gated::Shut(r) = answer::gate(s.len(), 0, s.len()) {
+    if let Gated::Shut(r) = entry_answer::gate(s.len(), 0, s.len()) {
         return Several::Refused(r);
     }
     match message::find_tag(s, 0, s.len(), tag, number) {
@@ -74,8 +74,8 @@ pub fn pick(s: &[u8], tag: u32) -> Picked
 pub fn pick_early(s: &[u8], tag: u32) -> Early
     ensures { λ r. ⌜ r ≡ earlyEntry (now (s .entry)) tag ⌝ }
 {
-    if let Gated::Shut(r) = answer::gate(s.len(), 0, s.len()) {
+    if let Gated::Shut(r) = entry_answer::gate(s.len(), 0, s.len()) {
         return Early::Refused(r);
     }
-    early::find_early(s, tag)
+    message_early::find_early(s, tag)
 }

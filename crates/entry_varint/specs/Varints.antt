@@ -5,9 +5,9 @@ use lib.ListN.{length}
 use Rattle.wire.specs.Reading.{varintAt, cappedAt}
 use Rattle.wire.specs.declared.VarintFound.{VarintFound}
 use Rattle.wire.specs.declared.VarintFound.the-variants as varintFound
-use Rattle.answer.specs.Gate.{gated, through}
-use Rattle.answer.specs.declared.VarintRead.{VarintRead}
-use Rattle.answer.specs.declared.VarintRead.the-variants.{Got, Refused}
+use Rattle.entry_answer.specs.Gate.{gated, through}
+use Rattle.entry_answer.specs.declared.VarintRead.{VarintRead}
+use Rattle.entry_answer.specs.declared.VarintRead.the-variants.{Got, Refused}
 
 -- a refusal answers the place given
 abbrev pub varintRead : ℕ → VarintFound → VarintRead

@@ -1,28 +1,19 @@
-// The entries on varints and on the signed mapping. Each tests its refusals in their order and hands the rest to a core.
+// The entries on varints. Each tests its refusals in their order and hands the rest to a core.
 ghost use mathlib.Core.Path.{_≡_};
-ghost use lib.ListN.{length};
 ghost use Rattle.wire.specs.Varint.{encode};
-ghost use Rattle.wire.specs.Signed.{toUnsigned, toSigned};
-ghost use Rattle.answer.specs.Stores.{atFront, atEnd};
+ghost use Rattle.entry_answer.specs.Stores.{atFront, atEnd};
 ghost use Rattle.entry_varint.specs.Varints.{decodeVarint, decodeVarintCapped};
-use answer::Gated;
-use answer::Put;
-use answer::VarintRead;
+use entry_answer::Gated;
+use entry_answer::Put;
+use entry_answer::VarintRead;
 use wire::Refusal;
 use wire::VarintFound;
-
-// How many bytes a number is written as.
-pub fn encoded_len_varint(v: u64) -> usize
-    ensures { λ r. ⌜ r ≡ length (encode v) ⌝ }
-{
-    varint::encoded_len_varint(v)
-}
 
 // A number's bytes at the buffer's front; NoRoom where they do not fit.
 pub fn encode_varint(v: u64, buf: &mut [u8]) -> Put
     ensures { λ r. ⌜ record { answer = r; buf = now (buf .exit) } ≡ atFront (now (buf .entry)) (encode v) ⌝ }
 {
-    let n = varint::put_varint(buf, 0, v);
+    let n = varint_write::put_varint(buf, 0, v);
     if n == 0 {
         return Put::Refused(Refusal::NoRoom);
     }
@@ -34,7 +25,7 @@ pub fn prepend_varint(v: u64, buf: &mut [u8]) -> Put
     ensures { λ r. ⌜ record { answer = r; buf = now (buf .exit) } ≡ atEnd (now (buf .entry)) (encode v) ⌝ }
 {
     let end = buf.len();
-    let start = varint::prepend_varint(buf, end, v);
+    let start = varint_write::prepend_varint(buf, end, v);
     if start == end {
         return Put::Refused(Refusal::NoRoom);
     }
@@ -45,7 +36,7 @@ pub fn prepend_varint(v: u64, buf: &mut [u8]) -> Put
 pub fn decode_varint(s: &[u8], at: usize) -> VarintRead
     ensures { λ r. ⌜ r ≡ decodeVarint (now (s .entry)) at ⌝ }
 {
-    if let Gated::Shut(r) = answer::gate(s.len(), at, s.len()) {
+    if let Gated::Shut(r) = entry_answer::gate(s.len(), at, s.len()) {
         return VarintRead::Refused(r, at);
     }
     match varint_read::decode_varint(s, at) {
@@ -58,25 +49,11 @@ pub fn decode_varint(s: &[u8], at: usize) -> VarintRead
 pub fn decode_varint_capped(s: &[u8], at: usize, end: usize) -> VarintRead
     ensures { λ r. ⌜ r ≡ decodeVarintCapped (now (s .entry)) at end ⌝ }
 {
-    if let Gated::Shut(r) = answer::gate(s.len(), at, end) {
+    if let Gated::Shut(r) = entry_answer::gate(s.len(), at, end) {
         return VarintRead::Refused(r, at);
     }
     match varint_read::decode_varint_capped(s, at, end) {
         VarintFound::Got(v, next) => VarintRead::Got(v, next),
         VarintFound::Refused(r) => VarintRead::Refused(r, at),
     }
-}
-
-// A signed number as an unsigned one: v at least 0 gives 2v, v below 0 gives -2v - 1.
-pub fn i64_to_unsigned(v: i64) -> u64
-    ensures { λ r. ⌜ r ≡ toUnsigned v ⌝ }
-{
-    signed::i64_to_unsigned(v)
-}
-
-// Its inverse.
-pub fn u64_to_signed(u: u64) -> i64
-    ensures { λ r. ⌜ r ≡ toSigned u ⌝ }
-{
-    signed::u64_to_signed(u)
 }

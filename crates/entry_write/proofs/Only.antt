@@ -2,8 +2,8 @@
 use mathlib.Core.Path.{_∙_, sym}
 use denote.Ref.{now}
 use Rattle.wire.specs.Only.{One}
-use Rattle.wire.specs.Writing.{Writing}
-use Rattle.wire.specs.Insertion.{Insertion}
+use Rattle.write_message.specs.Writing.{Writing}
+use Rattle.write_insertion.specs.Insertion.{Insertion}
 use Rattle.entry_write.proofs.encode_message.Kinds as encode-message
 use Rattle.entry_write.proofs.encode_message.Reads as encode-message-reads
 use Rattle.entry_write.proofs.prepend_message.Kinds as prepend-message

@@ -1,2 +1,3 @@
 pub mod Writers
 pub mod Longest
+pub mod WritingCases

@@ -6,8 +6,8 @@ use lib.ListN.{replicate}
 use Rattle.wire.specs.Varint.{encode}
 use Rattle.wire.specs.Limits.{messageLimit}
 use Rattle.wire.specs.Table.{recordAt, goodValue, good}
-use Rattle.wire.specs.Records.{judge, checked}
-use Rattle.wire.specs.Writing.{Plan, Refuses, plan, measured, front}
+use Rattle.write_record.specs.Records.{judge, checked}
+use Rattle.write_message.specs.Writing.{Plan, Refuses, plan, measured, front}
 use Rattle.wire.specs.declared.Refusal.the-variants.{TooLong}
 use Rattle.wire.specs.declared.Written.the-variants.{At, Refused}
 

@@ -2,8 +2,8 @@
 use Prim.Native.Nat.{ℕ}
 use mathlib.Core.List.{List}
 use Rattle.wire.specs.Limits.{messageLimit}
-use Rattle.wire.specs.Writing.{plan, measured, Writing, front, back}
-use Rattle.wire.specs.Insertion.{aim, Insertion, inserts}
+use Rattle.write_message.specs.Writing.{plan, measured, Writing, front, back}
+use Rattle.write_insertion.specs.Insertion.{aim, Insertion, inserts}
 use Rattle.wire.specs.declared.Record.{Record}
 use Rattle.wire.specs.declared.Written.{Written}
 

@@ -12,26 +12,26 @@ const LONGEST: u32 = wire::MESSAGE_LIMIT as u32;
 pub fn encode_message(source: &[u8], table: &[u64], count: usize, buf: &mut [u8]) -> Written
     ensures { λ r. ⌜ record { answer = r; buf = now (buf .exit) } ≡ encodeMessage (now (source .entry)) (now (table .entry)) count (now (buf .entry)) ⌝ }
 {
-    writer::write_front(source, table, count, LONGEST, buf)
+    write_message::write_front(source, table, count, LONGEST, buf)
 }
 
 // The same at the buffer's end.
 pub fn prepend_message(source: &[u8], table: &[u64], count: usize, buf: &mut [u8]) -> Written
     ensures { λ r. ⌜ record { answer = r; buf = now (buf .exit) } ≡ prependMessage (now (source .entry)) (now (table .entry)) count (now (buf .entry)) ⌝ }
 {
-    writer::write_back(source, table, count, LONGEST, buf)
+    write_message::write_back(source, table, count, LONGEST, buf)
 }
 
 // How long that message is.
 pub fn encoded_len_message(source: &[u8], table: &[u64], count: usize) -> Written
     ensures { λ r. ⌜ r ≡ encodedLen (now (source .entry)) (now (table .entry)) count ⌝ }
 {
-    writer::measure(source, table, count, LONGEST)
+    write_message::measure(source, table, count, LONGEST)
 }
 
 // A new record behind all of a table's first records whose tag is equal or lower. A refusal leaves the table as it was.
 pub fn insert(source: &[u8], table: &mut [u64], count: usize, new: Record) -> Inserted
     ensures { λ r. ⌜ record { answer = r; table = now (table .exit) } ≡ insertRecord (now (source .entry)) (now (table .entry)) count new ⌝ }
 {
-    insertion::insert_record(source, table, count, new, LONGEST)
+    write_insertion::insert_record(source, table, count, new, LONGEST)
 }

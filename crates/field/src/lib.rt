@@ -13,11 +13,11 @@ use wire::ValueFound;
 pub fn decode_field(s: &[u8], at: usize, end: usize, last: u32) -> FieldFound
     ensures { λ r. ⌜ r ≡ fieldAt (now (s .entry)) end at last ⌝ }
 {
-    match key::decode_key(s, at, end, last) {
+    match field_key::decode_key(s, at, end, last) {
         KeyFound::Refused(r) => FieldFound::Refused(r),
         KeyFound::Got(key, q) => {
             let wire = key.wire;
-            match value::value_of_kind(s, q, end, key::wire_number(wire)) {
+            match field_value::value_of_kind(s, q, end, field_key::wire_number(wire)) {
                 ValueFound::Refused(r) => FieldFound::Refused(r),
                 ValueFound::Got(v, next) => FieldFound::Got(
                     Field {
@@ -41,11 +41,11 @@ pub fn step_from(s: &[u8], at: usize, end: usize, last: u32) -> Stepped
     if end < at {
         return Stepped::Refused(Refusal::Truncated);
     }
-    match key::decode_key(s, at, end, last) {
+    match field_key::decode_key(s, at, end, last) {
         KeyFound::Refused(r) => Stepped::Refused(r),
         KeyFound::Got(key, q) => {
             let wire = key.wire;
-            match value::decode_value(s, q, end, wire) {
+            match field_value::decode_value(s, q, end, wire) {
                 ValueFound::Refused(r) => Stepped::Refused(r),
                 ValueFound::Got(v, next) => Stepped::Field(
                     Field {
@@ -69,11 +69,11 @@ pub fn next_field(s: &[u8], at: usize, end: usize, last: u32) -> Stepped
     if end < at {
         return Stepped::Refused(Refusal::Truncated);
     }
-    match key::decode_key(s, at, end, last) {
+    match field_key::decode_key(s, at, end, last) {
         KeyFound::Refused(r) => Stepped::Refused(r),
         KeyFound::Got(key, q) => {
             let wire = key.wire;
-            match value::value_by_kind(s, q, end, key::wire_number(wire)) {
+            match field_value::value_by_kind(s, q, end, field_key::wire_number(wire)) {
                 ValueFound::Refused(r) => Stepped::Refused(r),
                 ValueFound::Got(v, next) => Stepped::Field(
                     Field {
@@ -97,11 +97,11 @@ pub fn walk_field(s: &[u8], at: usize, end: usize, last: u32) -> Stepped
     if end < at {
         return Stepped::Refused(Refusal::Truncated);
     }
-    match key::decode_key(s, at, end, last) {
+    match field_key::decode_key(s, at, end, last) {
         KeyFound::Refused(r) => Stepped::Refused(r),
         KeyFound::Got(key, q) => {
             let wire = key.wire;
-            match value::value_of_type(s, q, end, key::wire_number(wire)) {
+            match field_value::value_of_type(s, q, end, field_key::wire_number(wire)) {
                 ValueFound::Refused(r) => Stepped::Refused(r),
                 ValueFound::Got(v, next) => Stepped::Field(
                     Field {
@@ -126,11 +126,11 @@ pub fn pass_field(s: &[u8], at: usize, end: usize, last: u32) -> Stepped
     if end < at {
         return Stepped::Refused(Refusal::Truncated);
     }
-    match key::decode_key(s, at, end, last) {
+    match field_key::decode_key(s, at, end, last) {
         KeyFound::Refused(r) => Stepped::Refused(r),
         KeyFound::Got(key, q) => {
             let wire = key.wire;
-            match value::value_in_pass(s, q, end, key::wire_number(wire)) {
+            match field_value::value_in_pass(s, q, end, field_key::wire_number(wire)) {
                 ValueFound::Refused(r) => Stepped::Refused(r),
                 ValueFound::Got(v, next) => Stepped::Field(
                     Field {

@@ -1,6 +1,6 @@
 -- What the face answers, in words.
 use mathlib.Core.Path.{_∙_, ap}
-use Rattle.answer.specs.Told.{keyTold}
+use Rattle.entry_answer.specs.Told.{keyTold}
 use borrow.Author.Needs.{needs}
 use Rattle.capgauze_c.proofs.capgauze_decode_key.Statement.{statement}
 use Rattle.capgauze_c.proofs.capgauze_decode_key.Tie as tie

@@ -1,6 +1,6 @@
 -- What the face answers, in words.
 use mathlib.Core.Path.{_∙_, ap}
-use Rattle.answer.specs.Told.{varintTold}
+use Rattle.entry_answer.specs.Told.{varintTold}
 use borrow.Author.Needs.{needs}
 use Rattle.capgauze_c.proofs.capgauze_decode_varint.Statement.{statement}
 use Rattle.capgauze_c.proofs.capgauze_decode_varint.Tie as tie

@@ -1,6 +1,6 @@
 -- What the face answers, in words.
 use mathlib.Core.Path.{_∙_, ap}
-use Rattle.answer.specs.Told.{writtenTold}
+use Rattle.entry_answer.specs.Told.{writtenTold}
 use borrow.Author.Needs.{needs}
 use Rattle.capgauze_c.proofs.capgauze_encoded_len_message.Statement.{statement}
 use Rattle.capgauze_c.proofs.capgauze_encoded_len_message.Tie as tie

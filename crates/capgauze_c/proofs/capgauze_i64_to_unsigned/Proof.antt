@@ -1,7 +1,7 @@
 -- The number as it was passed on.
 use mathlib.Core.Path.{_∙_, ap}
 use Rattle.wire.specs.Signed.{toUnsigned}
-use Rattle.signed.proofs.Signed.{again}
+use Rattle.varint_signed.proofs.Signed.{again}
 use borrow.Author.Needs.{needs}
 use Rattle.capgauze_c.proofs.capgauze_i64_to_unsigned.Statement.{statement}
 use Rattle.capgauze_c.proofs.capgauze_i64_to_unsigned.Tie as tie

@@ -1,6 +1,6 @@
 -- What the face answers, in words.
 use mathlib.Core.Path.{_∙_, ap}
-use Rattle.answer.specs.Told.{measuredTold}
+use Rattle.entry_answer.specs.Told.{measuredTold}
 use borrow.Author.Needs.{needs}
 use Rattle.capgauze_c.proofs.capgauze_key_len.Statement.{statement}
 use Rattle.capgauze_c.proofs.capgauze_key_len.Tie as tie

@@ -1,6 +1,6 @@
 -- What the face answers, in words.
 use mathlib.Core.Path.{_∙_, ap}
-use Rattle.answer.specs.Told.{earlyTold}
+use Rattle.entry_answer.specs.Told.{earlyTold}
 use borrow.Author.Needs.{needs}
 use Rattle.capgauze_c.proofs.capgauze_pick_early.Statement.{statement}
 use Rattle.capgauze_c.proofs.capgauze_pick_early.Tie as tie

@@ -1,6 +1,6 @@
 -- A number that is no wire type, or what the face answers.
 use mathlib.Core.Path.{_∙_, ap, sym}
-use Rattle.answer.specs.Told.{skippedTold}
+use Rattle.entry_answer.specs.Told.{skippedTold}
 use Rattle.capgauze_c.specs.Words.{place-unknown, place-known}
 use borrow.Author.Needs.{needs}
 use Rattle.capgauze_c.proofs.capgauze_skip_field.Statement.{statement}

@@ -1,6 +1,6 @@
 -- The words of each case.
 use mathlib.Core.Path.{ap, sym}
-use Rattle.answer.specs.Told.{earlyTold}
+use Rattle.entry_answer.specs.Told.{earlyTold}
 use borrow.Author.Needs.{needs}
 use Rattle.capgauze_c.proofs.early_words.Statement.{statement}
 use Rattle.capgauze_c.proofs.early_words.Tie as tie

@@ -1,6 +1,6 @@
 -- The words of each case.
 use mathlib.Core.Path.{ap, sym}
-use Rattle.answer.specs.Told.{measuredTold}
+use Rattle.entry_answer.specs.Told.{measuredTold}
 use borrow.Author.Needs.{needs}
 use Rattle.capgauze_c.proofs.measured_words.Statement.{statement}
 use Rattle.capgauze_c.proofs.measured_words.Tie as tie

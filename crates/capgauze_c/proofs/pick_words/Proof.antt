@@ -1,6 +1,6 @@
 -- The words of each case.
 use mathlib.Core.Path.{ap, sym}
-use Rattle.answer.specs.Told.{pickedTold}
+use Rattle.entry_answer.specs.Told.{pickedTold}
 use borrow.Author.Needs.{needs}
 use Rattle.capgauze_c.proofs.pick_words.Statement.{statement}
 use Rattle.capgauze_c.proofs.pick_words.Tie as tie

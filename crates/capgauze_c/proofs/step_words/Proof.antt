@@ -1,6 +1,6 @@
 -- The words of each case.
 use mathlib.Core.Path.{_∙_, ap, sym}
-use Rattle.answer.specs.Told.{stepTold}
+use Rattle.entry_answer.specs.Told.{stepTold}
 use borrow.Author.Needs.{needs}
 use Rattle.capgauze_c.proofs.step_words.Statement.{statement}
 use Rattle.capgauze_c.proofs.step_words.Tie as tie

@@ -1,8 +1,8 @@
 -- `dump::finish` is safe.
 use mathlib.Core.Path.{ap}
 use native.Mathlib.Omega.{arith}
-use Rattle.frames.specs.Print.{Printing}
-use Rattle.frames.specs.PrintLaws.{print-inside}
+use Rattle.text_frames.specs.Print.{Printing}
+use Rattle.text_frames.specs.PrintLaws.{print-inside}
 use borrow.Author.Needs.{needs}
 use Rattle.dump.proofs.finish.Statement.{statement}
 use Rattle.dump.proofs.finish.Tie as tie

@@ -1,7 +1,7 @@
 -- The gate, then the place.
 use mathlib.Core.Path.{_≡_, _∙_, sym}
 use native.Mathlib.Omega.{arith}
-use Rattle.answer.specs.Gate.{through-shut, through-open}
+use Rattle.entry_answer.specs.Gate.{through-shut, through-open}
 use Rattle.entry_field.specs.Test.{moreOf, moreEntry, more-yes, more-no, more-past}
 use borrow.Author.Needs.{needs}
 use Rattle.entry_field.proofs.more_at.Statement.{statement}

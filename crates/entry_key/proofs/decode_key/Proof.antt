@@ -1,6 +1,6 @@
 -- The gate, then the core; a refusal answers what was given.
 use mathlib.Core.Path.{_∙_, ap, sym}
-use Rattle.answer.specs.Gate.{through-shut, through-open}
+use Rattle.entry_answer.specs.Gate.{through-shut, through-open}
 use Rattle.entry_key.specs.Keys.{keyAnswer, decodeKey}
 use borrow.Author.Needs.{needs}
 use Rattle.entry_key.proofs.decode_key.Statement.{statement}

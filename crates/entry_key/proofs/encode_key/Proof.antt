@@ -2,7 +2,7 @@
 use mathlib.Core.Path.{_∙_, sym}
 use native.Mathlib.Omega.{arith}
 use Rattle.wire.specs.VarintLaws.{length-pos}
-use Rattle.answer.specs.Stores.{atFront, puts-none, puts-done, puts-front}
+use Rattle.entry_answer.specs.Stores.{atFront, puts-none, puts-done, puts-front}
 use Rattle.entry_key.specs.Keys.{front-falls, front-order}
 use borrow.Author.Needs.{needs}
 use Rattle.entry_key.proofs.encode_key.Statement.{statement}

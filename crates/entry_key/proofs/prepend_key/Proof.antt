@@ -3,7 +3,7 @@ use mathlib.Core.Path.{_∙_, sym}
 use native.Mathlib.Omega.{arith}
 use Rattle.wire.specs.VarintLaws.{length-pos}
 use Rattle.place.specs.Place.{prepend-starts}
-use Rattle.answer.specs.Stores.{atEnd, puts-none, puts-done, puts-end}
+use Rattle.entry_answer.specs.Stores.{atEnd, puts-none, puts-done, puts-end}
 use Rattle.entry_key.specs.Keys.{end-falls, end-order}
 use borrow.Author.Needs.{needs}
 use Rattle.entry_key.proofs.prepend_key.Statement.{statement}

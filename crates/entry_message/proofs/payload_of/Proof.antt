@@ -3,7 +3,7 @@ use mathlib.Core.Path.{_≡_, ap}
 use native.Mathlib.Omega.{arith}
 use Prim.Native.Nat.{_+_, _-_, _≤_}
 use lib.ListN.{length}
-use Rattle.payload.specs.Payload.{span-within}
+use Rattle.message_payload.specs.Payload.{span-within}
 use Rattle.entry_message.specs.Messages.{partAt, payloadPart}
 use borrow.Author.Needs.{needs}
 use Rattle.entry_message.proofs.payload_of.Statement.{statement}

@@ -1,6 +1,6 @@
 -- The gate, then the core; a refusal answers its number alone.
 use mathlib.Core.Path.{_≡_, _∙_, ap, sym}
-use Rattle.answer.specs.Gate.{through-shut, through-open}
+use Rattle.entry_answer.specs.Gate.{through-shut, through-open}
 use Rattle.entry_message.specs.Messages.{severalEntry, severalOf}
 use borrow.Author.Needs.{needs}
 use Rattle.entry_message.proofs.pick_at.Statement.{statement}

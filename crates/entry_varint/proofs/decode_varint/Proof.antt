@@ -1,6 +1,6 @@
 -- The gate, then the core; a refusal answers the place given.
 use mathlib.Core.Path.{_∙_, ap, sym}
-use Rattle.answer.specs.Gate.{through-shut, through-open}
+use Rattle.entry_answer.specs.Gate.{through-shut, through-open}
 use Rattle.entry_varint.specs.Varints.{varintRead, decodeVarint}
 use borrow.Author.Needs.{needs}
 use Rattle.entry_varint.proofs.decode_varint.Statement.{statement}

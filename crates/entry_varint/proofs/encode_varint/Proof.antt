@@ -1,7 +1,7 @@
 -- What the core put, told as an answer.
 use native.Mathlib.Omega.{arith}
 use Rattle.wire.specs.VarintLaws.{length-pos}
-use Rattle.answer.specs.Stores.{atFront, puts-none, puts-done, puts-front}
+use Rattle.entry_answer.specs.Stores.{atFront, puts-none, puts-done, puts-front}
 use borrow.Author.Needs.{needs}
 use Rattle.entry_varint.proofs.encode_varint.Statement.{statement}
 use Rattle.entry_varint.proofs.encode_varint.Tie as tie

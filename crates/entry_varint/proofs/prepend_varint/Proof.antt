@@ -2,7 +2,7 @@
 use native.Mathlib.Omega.{arith}
 use Rattle.wire.specs.VarintLaws.{length-pos}
 use Rattle.place.specs.Place.{prepend-starts}
-use Rattle.answer.specs.Stores.{atEnd, puts-none, puts-done, puts-end}
+use Rattle.entry_answer.specs.Stores.{atEnd, puts-none, puts-done, puts-end}
 use borrow.Author.Needs.{needs}
 use Rattle.entry_varint.proofs.prepend_varint.Statement.{statement}
 use Rattle.entry_varint.proofs.prepend_varint.Tie as tie

@@ -4,7 +4,7 @@ use lib.IntN.{pos, _-ℤ_}
 use mir.Syntax.{w64}
 use mir.Val.{SFits, toZ, ofZ}
 use native.Mathlib.Omega.{arith}
-use Rattle.signed.proofs.Signed as S
+use Rattle.varint_signed.proofs.Signed as S
 use borrow.Author.Needs.{needs}
 use Rattle.replay.proofs.signed.Statement.{statement}
 use Rattle.replay.proofs.signed.Tie as tie

@@ -1,4 +1,4 @@
-use Rattle.signed.proofs.Signed as S
+use Rattle.varint_signed.proofs.Signed as S
 use borrow.Author.Needs.{needs}
 use Rattle.replay.proofs.signed_words.Statement.{statement}
 use Rattle.replay.proofs.signed_words.Tie as tie

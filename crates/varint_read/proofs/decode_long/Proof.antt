@@ -1,4 +1,4 @@
--- `varint::decode_long` meets its contract.
+-- `varint_write::decode_long` meets its contract.
 use Prim.Native.Nat.{_<_}
 use mathlib.Core.Path.{_≡_, _∙_, refl, sym}
 use mathlib.Core.Logic.{inl}

@@ -1,4 +1,4 @@
--- `varint::decode_varint` meets its contract: one byte and two are read off, and the rest is `decode_long`'s.
+-- `varint_write::decode_varint` meets its contract: one byte and two are read off, and the rest is `decode_long`'s.
 use Prim.Native.Nat.{_+_, _<_}
 use mathlib.Core.Path.{sym}
 use native.Mathlib.Omega.{arith}

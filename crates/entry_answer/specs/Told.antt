@@ -1,0 +1,165 @@
+-- The paper's number and values for each case of each answer.
+use Prim.Native.Nat.{ℕ}
+use Rattle.wire.specs.Numbers.{numberOf, typeOf}
+use Rattle.wire.specs.Table.{kindWord, valueWord, lengthWord}
+use Rattle.wire.specs.declared.Read.{Read}
+use Rattle.wire.specs.declared.Read.the-variants as read
+use Rattle.wire.specs.declared.Early as earlyOf
+use Rattle.wire.specs.declared.Early.the-variants as early
+use Rattle.wire.specs.declared.Written.{Written}
+use Rattle.wire.specs.declared.Written.the-variants as written
+use Rattle.wire.specs.declared.Inserted.{Inserted}
+use Rattle.wire.specs.declared.Inserted.the-variants as inserted
+use Rattle.entry_answer.specs.declared.Put.{Put}
+use Rattle.entry_answer.specs.declared.Put.the-variants as put
+use Rattle.entry_answer.specs.declared.VarintRead.{VarintRead}
+use Rattle.entry_answer.specs.declared.VarintRead.the-variants as varintRead
+use Rattle.entry_answer.specs.declared.KeyRead.{KeyRead}
+use Rattle.entry_answer.specs.declared.KeyRead.the-variants as keyRead
+use Rattle.entry_answer.specs.declared.ValueRead.{ValueRead}
+use Rattle.entry_answer.specs.declared.ValueRead.the-variants as valueRead
+use Rattle.entry_answer.specs.declared.Skipped.{Skipped}
+use Rattle.entry_answer.specs.declared.Skipped.the-variants as skipped
+use Rattle.entry_answer.specs.declared.Step.{Step}
+use Rattle.entry_answer.specs.declared.Step.the-variants as step
+use Rattle.entry_answer.specs.declared.Measured.{Measured}
+use Rattle.entry_answer.specs.declared.Measured.the-variants as measured
+use Rattle.entry_answer.specs.declared.Picked.{Picked}
+use Rattle.entry_answer.specs.declared.Picked.the-variants as picked
+use Rattle.entry_answer.specs.declared.Several as several
+use Rattle.entry_answer.specs.declared.Several.the-variants as severalAs
+
+-- a length or a count
+pub record Number : Type 0 where
+  pub number : ℕ
+  pub value : ℕ
+
+abbrev pub putTold : Put → Number
+putTold (put.Done n) = record { number = 0; value = n }
+putTold (put.Refused r) = record { number = numberOf r; value = 0 }
+
+pub record Varint : Type 0 where
+  pub number : ℕ
+  pub value : ℕ
+  pub place : ℕ
+
+abbrev pub varintTold : VarintRead → Varint
+varintTold (varintRead.Got v q) = record { number = 0; value = v; place = q }
+varintTold (varintRead.Refused r p) = record { number = numberOf r; value = 0; place = p }
+
+abbrev pub measuredTold : Measured → Number
+measuredTold (measured.Length n) = record { number = 0; value = n }
+measuredTold (measured.Refused r) = record { number = numberOf r; value = 0 }
+
+-- a key: refused, the last tag given
+pub record Key : Type 0 where
+  pub number : ℕ
+  pub tag : ℕ
+  pub type : ℕ
+  pub place : ℕ
+
+abbrev pub keyTold : KeyRead → Key
+keyTold (keyRead.Got k q) = record { number = 0; tag = k .tag; type = typeOf (k .wire); place = q }
+keyTold (keyRead.Refused r p last) = record { number = numberOf r; tag = last; type = 0; place = p }
+
+-- a value's two words are a record's
+pub record Value : Type 0 where
+  pub number : ℕ
+  pub value : ℕ
+  pub length : ℕ
+  pub place : ℕ
+
+abbrev pub valueTold : ValueRead → Value
+valueTold (valueRead.Got v q) = record { number = 0; value = valueWord v; length = lengthWord v; place = q }
+valueTold (valueRead.Refused r p) = record { number = numberOf r; value = 0; length = 0; place = p }
+
+-- a place reached
+pub record Place : Type 0 where
+  pub number : ℕ
+  pub place : ℕ
+
+abbrev pub skippedTold : Skipped → Place
+skippedTold (skipped.To q) = record { number = 0; place = q }
+skippedTold (skipped.Refused r p) = record { number = numberOf r; place = p }
+
+-- a step from a place after a last tag: at the end both are as they were given
+pub record Field : Type 0 where
+  pub number : ℕ
+  pub found : ℕ
+  pub tag : ℕ
+  pub type : ℕ
+  pub value : ℕ
+  pub length : ℕ
+  pub place : ℕ
+
+abbrev pub stepTold : ℕ → ℕ → Step → Field
+stepTold at last (step.Field f q) =
+    record { number = 0; found = 1; tag = f .tag; type = kindWord (f .value); value = valueWord (f .value); length = lengthWord (f .value); place = q }
+stepTold at last step.End = record { number = 0; found = 0; tag = last; type = 0; value = 0; length = 0; place = at }
+stepTold at last (step.Refused r p t) = record { number = numberOf r; found = 0; tag = t; type = 0; value = 0; length = 0; place = p }
+
+-- a message: the place and the count
+pub record Message : Type 0 where
+  pub number : ℕ
+  pub place : ℕ
+  pub count : ℕ
+
+abbrev pub readTold : Read → Message
+readTold (read.Accepted p n) = record { number = 0; place = p; count = n }
+readTold (read.Refused r p n) = record { number = numberOf r; place = p; count = n }
+
+-- a field that was looked for: whether it was found, its type, and its value as a record has it
+pub record Pick : Type 0 where
+  pub number : ℕ
+  pub found : ℕ
+  pub type : ℕ
+  pub value : ℕ
+  pub length : ℕ
+
+abbrev pub pickedTold : Picked → Pick
+pickedTold (picked.Found f) = record { number = 0; found = 1; type = kindWord (f .value); value = valueWord (f .value); length = lengthWord (f .value) }
+pickedTold picked.Absent = record { number = 0; found = 0; type = 0; value = 0; length = 0 }
+pickedTold (picked.Refused r) = record { number = numberOf r; found = 0; type = 0; value = 0; length = 0 }
+
+-- how many there are of a tag, then the same of the one at a number
+pub record Several : Type 0 where
+  pub number : ℕ
+  pub count : ℕ
+  pub found : ℕ
+  pub type : ℕ
+  pub value : ℕ
+  pub length : ℕ
+
+abbrev pub severalTold : several.Several → Several
+severalTold (severalAs.Found n f) = record { number = 0; count = n; found = 1; type = kindWord (f .value); value = valueWord (f .value); length = lengthWord (f .value) }
+severalTold (severalAs.Absent n) = record { number = 0; count = n; found = 0; type = 0; value = 0; length = 0 }
+severalTold (severalAs.Refused r) = record { number = numberOf r; count = 0; found = 0; type = 0; value = 0; length = 0 }
+
+-- the number of keys read, then the same of the only one
+pub record Early : Type 0 where
+  pub number : ℕ
+  pub keys : ℕ
+  pub found : ℕ
+  pub type : ℕ
+  pub value : ℕ
+  pub length : ℕ
+
+abbrev pub earlyTold : earlyOf.Early → Early
+earlyTold (early.Found f n) = record { number = 0; keys = n; found = 1; type = kindWord (f .value); value = valueWord (f .value); length = lengthWord (f .value) }
+earlyTold (early.Absent n) = record { number = 0; keys = n; found = 0; type = 0; value = 0; length = 0 }
+earlyTold (early.Refused r) = record { number = numberOf r; keys = 0; found = 0; type = 0; value = 0; length = 0 }
+
+-- a message that was written: its start and its length
+pub record Wrote : Type 0 where
+  pub number : ℕ
+  pub start : ℕ
+  pub length : ℕ
+
+abbrev pub writtenTold : Written → Wrote
+writtenTold (written.At p n) = record { number = 0; start = p; length = n }
+writtenTold (written.Refused r p n) = record { number = numberOf r; start = p; length = n }
+
+-- insertion: the new count, or what the refusal carries
+abbrev pub insertedTold : Inserted → Number
+insertedTold (inserted.Count n) = record { number = 0; value = n }
+insertedTold (inserted.Refused r n) = record { number = numberOf r; value = n }

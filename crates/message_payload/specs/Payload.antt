@@ -1,0 +1,57 @@
+-- A record's payload, as a part of the message that the record was read from.
+use Prim.Native.Nat.{ℕ, _+_, _^_, _≤_, _<_}
+use mathlib.Core.Path.{_≡_, refl}
+use mathlib.Core.Bool.{Bool, true, false}
+use mathlib.Core.List.{List}
+use native.Mathlib.Omega.{arith}
+use borrow.Author.Tests.{lt-ltb, le-ltb, le-leb, lt-leb, eq-eqb, ne-eqb, ltb-true, ltb-false, leb-true, leb-false, eqb-true, eqb-false}
+use lib.Dec.{ltb, leb, eqb}
+use lib.ListN.{length, take, drop}
+use Rattle.wire.specs.Choose.{choose}
+use Rattle.wire.specs.Table.{goodValue, good}
+use Rattle.wire.specs.declared.Record.{Record}
+use Rattle.message_payload.specs.declared.Span.{Span}
+
+-- a good LengthDelimited record of a slice of n bytes
+abbrev pub goodPayload : ℕ → Record → Bool
+goodPayload n r = choose (eqb (r .kind) 1) (good n r) false
+
+-- its start and its length; any other record has the empty part at the front
+unfoldable pub spanOf : ℕ → Record → Span
+spanOf n r = choose (goodPayload n r) (record { start = r .value; length = r .length }) (record { start = 0; length = 0 })
+
+-- the bytes there
+abbrev pub payload : List ℕ → Record → List ℕ
+payload s r = let p = spanOf (length s) r in take (p .length) (drop (p .start) s)
+
+-- ---- its cases
+
+module _ (n : ℕ) (r : Record) where
+  pub span-kind : (r .kind ≡ 1 → ⊥) → spanOf n r ≡ record { start = 0; length = 0 }
+  unfolding spanOf
+  span-kind h = rw (ne-eqb (r .kind) 1 h)
+
+  module _ (k : r .kind ≡ 1) where
+    pub span-tag : 2 ^ 32 ≤ r .tag → spanOf n r ≡ record { start = 0; length = 0 }
+    unfolding spanOf good
+    span-tag h = rw (eq-eqb (r .kind) 1 k, le-ltb (r .tag) (2 ^ 32) h)
+
+    pub span-outside : r .tag < 2 ^ 32 → n < r .value + r .length → spanOf n r ≡ record { start = 0; length = 0 }
+    unfolding spanOf good goodValue
+    span-outside h g = rw (k, lt-ltb (r .tag) (2 ^ 32) h, lt-leb (r .value + r .length) n g)
+
+    pub span-inside : r .tag < 2 ^ 32 → r .value + r .length ≤ n → spanOf n r ≡ record { start = r .value; length = r .length }
+    unfolding spanOf good goodValue
+    span-inside h g = rw (k, lt-ltb (r .tag) (2 ^ 32) h, le-leb (r .value + r .length) n g)
+
+  -- it lies inside the slice
+  pub span-within : spanOf n r .start + spanOf n r .length ≤ n
+  span-within = go (eqb (r .kind) 1) refl (ltb (r .tag) (2 ^ 32)) refl (leb (r .value + r .length) n) refl
+    where
+      go : (a : Bool) → eqb (r .kind) 1 ≡ a → (b : Bool) → ltb (r .tag) (2 ^ 32) ≡ b → (c : Bool) → leb (r .value + r .length) n ≡ c → spanOf n r .start + spanOf n r .length ≤ n
+      go false k b t c v = rw (span-kind (eqb-false (r .kind) 1 k)) (omega arith)
+      go true k false t c v = rw (span-tag (eqb-true (r .kind) 1 k) (ltb-false (r .tag) (2 ^ 32) t)) (omega arith)
+      go true k true t false v =
+          rw (span-outside (eqb-true (r .kind) 1 k) (ltb-true (r .tag) (2 ^ 32) t) (leb-false (r .value + r .length) n v)) (omega arith)
+      go true k true t true v =
+          rw (span-inside (eqb-true (r .kind) 1 k) (ltb-true (r .tag) (2 ^ 32) t) (leb-true (r .value + r .length) n v)) (leb-true (r .value + r .length) n v)

@@ -1,0 +1,79 @@
+-- Each type of value gives its words.
+use mathlib.Core.Path.{_≡_}
+use native.Mathlib.Omega.{arith}
+use Prim.Native.Nat.{_≤_}
+use Rattle.wire.specs.Fixed.{eight}
+use Rattle.message_table.proofs.Present.{varinted-of, number-words, payload-words, payload-inside, four-words, four-inside, eight-words, eight-inside}
+use borrow.Author.Needs.{needs}
+use Rattle.message_table.proofs.known_value.Statement.{statement}
+use Rattle.message_table.proofs.known_value.Tie as tie
+
+known-varint-requires : tie.Need-known-varint-requires
+known-varint-requires c κs = varinted-of _ _ _ (c .before .before .pre) (c .if1 .taken)
+
+returns : tie.Need-returns
+returns c = number-words _ _ _ (c .if2 .taken) _ _ (c .before .known-varint .ensures)
+
+add-t13 : tie.Need-add-t13
+add-t13 c =
+    let n = payload-inside _ _ _ (omega arith) _ _ (c .before .known-varint .ensures) (c .before .before .before .before .pre) in
+    omega (arith, n, c .before .before .before .before .good .0 .0)
+
+returns-2 : tie.Need-returns-2
+returns-2 c =
+    let k : c .before .before .before .before .args .kind ≡ 1 = omega arith in
+    payload-words _ _ _ k _ _ (c .before .known-varint .ensures)
+
+known-four-requires : tie.Need-known-four-requires
+known-four-requires c κs = four-inside _ _ _ (c .if3 .taken) (c .before .before .before .pre)
+
+add-t15 : tie.Need-add-t15
+add-t15 c =
+    omega (arith, four-inside _ _ _ (c .before .if3 .taken) (c .before .before .before .before .pre), c .before .before .before .before .good .0 .0)
+
+returns-3 : tie.Need-returns-3
+returns-3 c = four-words _ _ _ (c .before .if3 .taken) _ (c .known-four .ensures .0)
+
+known-four-requires-2 : tie.Need-known-four-requires-2
+known-four-requires-2 c κs = omega (arith, eight-inside _ _ _ (omega arith) (c .before .before .before .pre))
+
+add-known-four : tie.Need-add-known-four
+add-known-four c = omega (arith, eight-inside _ _ _ (omega arith) (c .before .before .before .before .pre), c .before .before .before .before .good .0 .0)
+
+known-four-requires-3 : tie.Need-known-four-requires-3
+known-four-requires-3 c κs = omega (arith, eight-inside _ _ _ (omega arith) (c .before .before .before .before .pre))
+
+mul-t17 : tie.Need-mul-t17
+mul-t17 c = search needs
+
+add-t18 : tie.Need-add-t18
+add-t18 c = search needs
+
+add-t16 : tie.Need-add-t16
+add-t16 c = omega (arith, eight-inside _ _ _ (omega arith) (c .before .before .before .before .before .pre), c .before .before .before .before .before .good .0 .0)
+
+returns-4 : tie.Need-returns-4
+returns-4 c =
+    let a = c .before .before .before .before .before .args in
+    let k : 3 ≤ a .kind = omega arith in
+    let n = eight-inside _ _ _ k (c .before .before .before .before .before .pre) in
+    eight-words _ _ _ k _ (omega (arith, eight (a .s .now) (a .at) n, c .before .known-four2 .ensures .0, c .known-four3 .ensures .0))
+
+pub known-value-spec : {M : Type 1} → statement M
+known-value-spec =
+    tie.close
+    (tie.spec
+    known-varint-requires
+    returns
+    add-t13
+    returns-2
+    known-four-requires
+    add-t15
+    returns-3
+    known-four-requires-2
+    add-known-four
+    known-four-requires-3
+    mul-t17
+    add-t18
+    add-t16
+    returns-4)

@@ -1,0 +1,198 @@
+-- A field's text from the words of its record, and the records of a table one after another.
+use Prim.Native.Nat.{ℕ, zero, suc, _+_, _*_, _≤_, _<_}
+use mathlib.Core.Path.{_≡_, refl, ap, _∙_, sym, subst}
+use mathlib.Core.List.{List, [], _∷_, _++_}
+use native.Mathlib.Omega.{arith}
+use native.Mathlib.Numerals.{add-one}
+use lib.ListN.{length, take, drop, getD, length-append, drop-of-length-le}
+use lib.Seq.{drop-cons, getD-drop}
+use Rattle.wire.specs.Limits.{recordWords}
+use Rattle.wire.specs.Fixed.{fixed}
+use Rattle.wire.specs.Written.{Item, type}
+use Rattle.wire.specs.Places.{shown, itemOf, items}
+use Rattle.wire.specs.Table.{kindWord, valueOf, recordOf, records, recordAt, fieldIn, fieldsFrom, value-words, length-records, fields-records}
+use Rattle.wire.specs.declared.Value.{Value}
+use Rattle.wire.specs.declared.Value.the-variants as val
+use Rattle.wire.specs.declared.Field.{Field}
+use Rattle.wire.specs.declared.Record.{Record}
+use Rattle.place.specs.Place.{Placed, putAt, Putting, put-start, put-done}
+use Rattle.message_payload.specs.Payload.{payload, span-inside}
+use Rattle.text_digits.specs.Digits.{digits, hexed}
+use Rattle.text_frames.specs.Text.{spaced, bytesText, valueText, fieldText, fieldsText}
+use Rattle.text_frames.specs.Room.{Held, Inside, AllInside}
+use Rattle.text_frames.specs.Print.{Lined, Recorded, Listed}
+use Rattle.text_frames.proofs.Puts.{has-room, put-next}
+
+-- ---- bytes
+
+pub bytes-none : (bs : List ℕ) → length bs < 1 → bytesText bs ≡ 45 ∷ []
+unfolding bytesText
+bytes-none [] h = refl
+bytes-none (b ∷ bs) h = absurd (omega arith)
+
+pub bytes-some : (bs : List ℕ) → 1 ≤ length bs → bytesText bs ≡ hexed bs
+unfolding bytesText
+bytes-some [] h = absurd (omega arith)
+bytes-some (b ∷ bs) h = refl
+
+-- ---- a value, by the kind of its record
+
+module _ (s : List ℕ) where
+  pub text-number : (k v l : ℕ) → k < 1 → valueText (shown s (valueOf k v l)) ≡ digits 16 16 v
+  unfolding valueText
+  text-number zero v l h = refl
+  text-number (suc k) v l h = absurd (omega arith)
+
+  pub text-payload : (k v l : ℕ) → 1 ≤ k → k < 2 → valueText (shown s (valueOf k v l)) ≡ bytesText (take l (drop v s))
+  unfolding valueText
+  text-payload zero v l g h = absurd (omega arith)
+  text-payload (suc zero) v l g h = refl
+  text-payload (suc (suc k)) v l g h = absurd (omega arith)
+
+  pub text-four : (k v l : ℕ) → 2 ≤ k → k < 3 → valueText (shown s (valueOf k v l)) ≡ hexed (fixed 4 v)
+  unfolding valueText
+  text-four zero v l g h = absurd (omega arith)
+  text-four (suc zero) v l g h = absurd (omega arith)
+  text-four (suc (suc zero)) v l g h = refl
+  text-four (suc (suc (suc k))) v l g h = absurd (omega arith)
+
+  pub text-eight : (k v l : ℕ) → 3 ≤ k → valueText (shown s (valueOf k v l)) ≡ hexed (fixed 8 v)
+  unfolding valueText
+  text-eight zero v l g = absurd (omega arith)
+  text-eight (suc zero) v l g = absurd (omega arith)
+  text-eight (suc (suc zero)) v l g = absurd (omega arith)
+  text-eight (suc (suc (suc k))) v l g = refl
+
+  held-payload : (k v l : ℕ) → k ≡ 1 → Held s (valueOf k v l) → v + l ≤ length s
+  held-payload k v l e h = rw e at h
+
+  -- the payload is the bytes that the record says
+  pub payload-inside : (r : Record) → Inside s (fieldIn r) → 1 ≤ r .kind → r .kind < 2 → payload s r ≡ take (r .length) (drop (r .value) s)
+  payload-inside r i g h =
+      let k : r .kind ≡ 1 = omega arith in
+      rw (span-inside (length s) r k (i .0) (held-payload (r .kind) (r .value) (r .length) k (i .1)))
+
+-- ---- a line: the pieces in their order
+
+abbrev pub afterKind : List ℕ → Record → List ℕ
+afterKind s r = 32 ∷ valueText (shown s (fieldIn r .value)) ++ 10 ∷ []
+
+pub line-start : {out : List ℕ} {at : ℕ} {head s : List ℕ} {r : Record} → Lined out at head s r
+    → Putting out at (fieldText head (itemOf s (fieldIn r))) out at (head ++ spaced (r .tag ∷ r .kind ∷ []) (afterKind s r))
+unfolding fieldText
+line-start {out} {at} {head} {s} {r} l =
+    subst (λ (k : ℕ). Putting out at (fieldText head (itemOf s (fieldIn r))) out at (head ++ spaced (r .tag ∷ k ∷ []) (afterKind s r)))
+    (sym (l .kind))
+    (put-start out at (fieldText head (itemOf s (fieldIn r))) (l .room))
+
+-- ---- the records of fields, in a table
+
+kind-type : (s : List ℕ) (v : Value) → kindWord v ≡ type (shown s v)
+kind-type s (val.Varint v) = refl
+kind-type s (val.LengthDelimited p n) = refl
+kind-type s (val.ThirtyTwoBit v) = refl
+kind-type s (val.SixtyFourBit v) = refl
+
+records-drop : (fs : List Field) (t : List ℕ) (i : ℕ) → i ≤ length fs → drop (recordWords * i) (records fs ++ t) ≡ records (drop i fs) ++ t
+records-drop fs t zero h = refl
+records-drop [] t (suc i) h = absurd (omega arith)
+records-drop (f ∷ fs) t (suc i) h =
+    let e : recordWords * suc i ≡ suc (suc (suc (suc (recordWords * i)))) = omega arith in
+    rw e (records-drop fs t i (omega arith))
+
+-- record i of the table is that of field i
+pub record-is : (fs : List Field) (t : List ℕ) (i : ℕ) (f : Field) (gs : List Field) → i < length fs → drop i fs ≡ f ∷ gs → recordAt (records fs ++ t) i ≡ recordOf f
+unfolding recordAt
+record-is fs t i f gs h e =
+    let u = records fs ++ t in
+    let d : drop (recordWords * i) u ≡ records (f ∷ gs) ++ t = records-drop fs t i (omega arith) ∙ ap (λ (l : List Field). records l ++ t) e in
+    let w : (k : ℕ) → getD u (recordWords * i + k) 0 ≡ getD (records (f ∷ gs) ++ t) k 0 =
+    λ k. sym (getD-drop (recordWords * i) u k 0) ∙ ap (λ (l : List ℕ). getD l k 0) d in
+    let z : recordWords * i + 0 ≡ recordWords * i = omega arith in
+    let a : getD u (recordWords * i) 0 ≡ f .tag = rw z at (w 0) in
+    rw (a, w 1, w 2, w 3)
+
+-- the field of record i, and those behind it
+pub record Next (fs : List Field) (i : ℕ) (r : Record) : Type 0 where
+  pub field : Field
+  pub rest : List Field
+  pub here : drop i fs ≡ field ∷ rest
+  pub behind : drop (i + 1) fs ≡ rest
+  pub is : fieldIn r ≡ field
+  pub kind : r .kind ≡ kindWord (field .value)
+
+next-of : (fs : List Field) (t : List ℕ) (i : ℕ) (r : Record) → i < length fs → r ≡ recordAt (records fs ++ t) i → Next fs i r
+next-of fs t i r h e =
+    let f = getD fs i (fieldIn r) in
+    let d = drop-cons fs i (fieldIn r) h in
+    let k : r ≡ recordOf f = e ∙ record-is fs t i f (drop (suc i) fs) h d in
+    record {
+      field = f;
+      rest = drop (suc i) fs;
+      here = d;
+      behind = rw (add-one i);
+      is = ap fieldIn k ∙ ap (λ (v : Value). record { tag = f .tag; value = v }) (value-words (f .value));
+      kind = ap (λ (x : Record). x .kind) k;
+    }
+
+-- ---- one field after another: those that are still to be put
+
+pub record Listing (out : List ℕ) (at : ℕ) (head s table : List ℕ) (count : ℕ) (buf : List ℕ) (p i : ℕ) : Type 0 where
+  pub has : Recorded s table count
+  pub reach : i ≤ count
+  pub left : AllInside s (drop i (has .fields))
+  pub put : Putting out at (fieldsText head (items s (has .fields))) buf p (fieldsText head (items s (drop i (has .fields))))
+
+pub fields-are : {s table : List ℕ} {count : ℕ} (h : Recorded s table count) → fieldsFrom count table 0 ≡ h .fields
+fields-are h = rw (h .listed, h .many) (fields-records (h .fields) (h .rest))
+
+pub list-start : {out : List ℕ} {at : ℕ} {head s table : List ℕ} {count : ℕ} → Listed out at head s table count → Listing out at head s table count out at 0
+list-start {out} {at} {head} {s} l =
+    let h = l .has in
+    record {
+      has = h;
+      reach = omega arith;
+      left = h .inside;
+      put = put-start out at (fieldsText head (items s (h .fields))) (rw (fields-are h) at (l .room));
+    }
+
+module _ {out : List ℕ} {at : ℕ} {head s table : List ℕ} {count : ℕ} {buf : List ℕ} {p i : ℕ} (w : Listing out at head s table count buf p i) where
+  pub list-words : i < count → recordWords * i + recordWords ≤ length table
+  list-words h = omega (arith, w .has .many, ap length (w .has .listed), length-append (records (w .has .fields)) (w .has .rest), length-records (w .has .fields))
+
+  module _ (h : i < count) {r : Record} (e : r ≡ recordAt table i) where
+    next : Next (w .has .fields) i r
+    next = next-of (w .has .fields) (w .has .rest) i r (omega (arith, w .has .many)) (e ∙ ap (λ (t : List ℕ). recordAt t i) (w .has .listed))
+
+    next-put : Putting out at (fieldsText head (items s (w .has .fields))) buf p (fieldText head (itemOf s (fieldIn r)) ++ fieldsText head (items s (next .rest)))
+    next-put =
+        subst (λ (x : Item). Putting out at (fieldsText head (items s (w .has .fields))) buf p (fieldText head x ++ fieldsText head (items s (next .rest))))
+        (ap (itemOf s) (sym (next .is)))
+        (rw (next .here) at (w .put))
+
+    next-inside : Inside s (next .field) × AllInside s (next .rest)
+    next-inside = rw (next .here) at (w .left)
+
+    pub list-one : Lined buf p head s r
+    list-one =
+        record {
+          room = has-room (fieldText head (itemOf s (fieldIn r))) (fieldsText head (items s (next .rest))) next-put;
+          inside = subst (Inside s) (sym (next .is)) (next-inside .0);
+          kind = next .kind ∙ kind-type s (next .field .value) ∙ ap (λ (f : Field). type (shown s (f .value))) (sym (next .is));
+        }
+
+    pub list-more : {n : ℕ} {c : List ℕ} → _≡_ {A = Placed} (record { next = n; buf = c }) (putAt buf p (fieldText head (itemOf s (fieldIn r))))
+        → Listing out at head s table count c n (i + 1)
+    list-more q =
+        record {
+          has = w .has;
+          reach = omega arith;
+          left = rw (next .behind) (next-inside .1);
+          put = rw (next .behind) (put-next _ (fieldsText head (items s (next .rest))) next-put q);
+        }
+
+  pub list-done : count ≤ i → record { next = p; buf = buf } ≡ putAt out at (fieldsText head (items s (fieldsFrom count table 0)))
+  list-done h =
+      let d : Putting out at (fieldsText head (items s (w .has .fields))) buf p [] =
+      rw (drop-of-length-le (w .has .fields) {i = i} (omega (arith, w .has .many))) at (w .put) in
+      rw (fields-are (w .has)) (put-done d)

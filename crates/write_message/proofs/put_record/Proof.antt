@@ -1,0 +1,45 @@
+-- `write_message::put_record` meets its contract.
+use native.Mathlib.Omega.{arith}
+use Rattle.place.specs.Spans.{spans-length, spans-as, spans-behind}
+use Rattle.write_message.proofs.Puts.{whole, whole-size}
+use borrow.Author.Needs.{needs}
+use Rattle.write_message.proofs.put_record.Statement.{statement}
+use Rattle.write_message.proofs.put_record.Tie as tie
+
+sub-put-number : tie.Need-sub-put-number
+sub-put-number c = search needs
+
+mul-put-number : tie.Need-mul-put-number
+mul-put-number c = search needs
+
+add-put-number : tie.Need-add-put-number
+add-put-number c = search needs
+
+put-number-requires : tie.Need-put-number-requires
+put-number-requires c κs =
+    let a = c .before .before .before .before .before in
+    omega (arith, whole-size (a .args .source .now) (a .args .prev) (a .args .r) (a .pre .0), a .pre .2)
+
+put-value-requires : tie.Need-put-value-requires
+put-value-requires c κs =
+    let k = c .before .before .before .put-number .ensures in
+    let a = c .before .before .before .before .before .before .before .before .before in
+    (a .pre .0, omega (arith, whole-size (a .args .source .now) (a .args .prev) (a .args .r) (a .pre .0), a .pre .2, k .reach, spans-length k))
+
+same-length : tie.Need-same-length
+same-length c = search needs
+
+returns : tie.Need-returns
+returns c = spans-as (whole _ _ _ (c .before .before .before .before .before .before .before .before .before .before .before .before .pre .0)) (spans-behind (c .before .before .before .before .before .before .put-number .ensures) (c .before .before .put-value .ensures))
+
+pub put-record-spec : {M : Type 1} → statement M
+put-record-spec =
+    tie.close
+    (tie.spec
+    sub-put-number
+    mul-put-number
+    add-put-number
+    put-number-requires
+    put-value-requires
+    same-length
+    returns)
