@@ -4,7 +4,7 @@ use denote.Ref.{now}
 use Rattle.wire.specs.Only.{One}
 use Rattle.entry_answer.specs.Told as told
 use Rattle.sounding.specs.Told as soundings
-use Rattle.capgauze_c.specs.Words.{Lent, asNumber, asVarint, asKey, asValue, asPlace, asStep, asRead, asPicked, asSeveral, asEarly, asPart, asWritten, asSounding}
+use Rattle.c_words.specs.Words.{Lent, asNumber, asVarint, asKey, asValue, asPlace, asStep, asRead, asPicked, asSeveral, asEarly, asPart, asWritten, asSounding}
 use Rattle.capgauze_c.proofs.capgauze_encoded_len_varint.Kinds as encoded-len-varint
 use Rattle.capgauze_c.proofs.capgauze_encoded_len_varint.Reads as encoded-len-varint-reads
 use Rattle.capgauze_c.proofs.capgauze_i64_to_unsigned.Kinds as i64-to-unsigned

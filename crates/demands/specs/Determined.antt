@@ -99,6 +99,21 @@ pub use Rattle.sounding.proofs.Only.{read-sounding-one as sounding-read-soundin
 -- soundings as text
 pub use Rattle.sounding_text.proofs.Only.{put-sounding-one as columns-put-sounding-one}
 -- the face for C
+pub use Rattle.c_words.proofs.Only.{wire-type-one as c-wire-type-one}
+pub use Rattle.c_words.proofs.Only.{put-words-one as c-put-words-one}
+pub use Rattle.c_words.proofs.Only.{varint-words-one as c-varint-words-one}
+pub use Rattle.c_words.proofs.Only.{read-words-one as c-read-words-one}
+pub use Rattle.c_words.proofs.Only.{key-words-one as c-key-words-one}
+pub use Rattle.c_words.proofs.Only.{value-read-words-one as c-value-read-words-one}
+pub use Rattle.c_words.proofs.Only.{skipped-words-one as c-skipped-words-one}
+pub use Rattle.c_words.proofs.Only.{step-words-one as c-step-words-one}
+pub use Rattle.c_words.proofs.Only.{measured-words-one as c-measured-words-one}
+pub use Rattle.c_words.proofs.Only.{written-words-one as c-written-words-one}
+pub use Rattle.c_words.proofs.Only.{inserted-words-one as c-inserted-words-one}
+pub use Rattle.c_words.proofs.Only.{pick-words-one as c-pick-words-one}
+pub use Rattle.c_words.proofs.Only.{several-words-one as c-several-words-one}
+pub use Rattle.c_words.proofs.Only.{early-words-one as c-early-words-one}
+pub use Rattle.c_words.proofs.Only.{sounding-words-one as c-sounding-words-one}
 pub use Rattle.capgauze_c.proofs.Only.{encoded-len-varint-one as c-encoded-len-varint-one}
 pub use Rattle.capgauze_c.proofs.Only.{i64-to-unsigned-one as c-i64-to-unsigned-one}
 pub use Rattle.capgauze_c.proofs.Only.{u64-to-signed-one as c-u64-to-signed-one}

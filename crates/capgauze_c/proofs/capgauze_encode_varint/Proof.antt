@@ -1,6 +1,6 @@
 -- What the face answers and leaves, in words.
 use mathlib.Core.Path.{ap}
-use Rattle.capgauze_c.specs.Words.{handed, storedTold}
+use Rattle.c_words.specs.Words.{handed, storedTold}
 use borrow.Author.Needs.{needs}
 use Rattle.capgauze_c.proofs.capgauze_encode_varint.Statement.{statement}
 use Rattle.capgauze_c.proofs.capgauze_encode_varint.Tie as tie

@@ -1,6 +1,6 @@
 -- What the face answers and leaves, in words.
 use mathlib.Core.Path.{ap}
-use Rattle.capgauze_c.specs.Words.{handed, insertionTold}
+use Rattle.c_words.specs.Words.{handed, insertionTold}
 use borrow.Author.Needs.{needs}
 use Rattle.capgauze_c.proofs.capgauze_insert.Statement.{statement}
 use Rattle.capgauze_c.proofs.capgauze_insert.Tie as tie

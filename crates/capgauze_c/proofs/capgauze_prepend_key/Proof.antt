@@ -1,6 +1,6 @@
 -- A number that is no wire type, or what the face answers and leaves.
 use mathlib.Core.Path.{_∙_, ap, sym}
-use Rattle.capgauze_c.specs.Words.{handed, storedTold, key-unknown, key-known}
+use Rattle.c_words.specs.Words.{handed, storedTold, key-unknown, key-known}
 use borrow.Author.Needs.{needs}
 use Rattle.capgauze_c.proofs.capgauze_prepend_key.Statement.{statement}
 use Rattle.capgauze_c.proofs.capgauze_prepend_key.Tie as tie
@@ -14,20 +14,40 @@ enum-known-wire c = search needs
 enum-told : tie.Need-enum-told
 enum-told c = search needs
 
+put-words-requires : tie.Need-put-words-requires
+put-words-requires c κs = search needs
+
 returns : tie.Need-returns
-returns c = sym (key-unknown _ _ _ (sym (c .before .before .wire-type .ensures) ∙ c .enum-told .given .1))
+returns c =
+    let n = c .before in
+    handed (c .put-words .ensures) (sym (key-unknown _ _ _ (sym (n .before .before .wire-type .ensures) ∙ n .enum-told .given .1)))
 
 prepend-key-requires : tie.Need-prepend-key-requires
 prepend-key-requires c κs = search needs
 
-put-words-requires : tie.Need-put-words-requires
-put-words-requires c κs = search needs
+put-words-requires-2 : tie.Need-put-words-requires-2
+put-words-requires-2 c κs = search needs
 
 same-length : tie.Need-same-length
 same-length c = search needs
 
 returns-2 : tie.Need-returns-2
-returns-2 c = handed (c .put-words .ensures) (ap storedTold (c .before .before .before .prepend-key .ensures) ∙ sym (key-known _ _ _ _ (sym (c .before .before .before .before .before .before .before .before .wire-type .ensures) ∙ c .before .before .before .before .before .before .wire .given .1)))
+returns-2 c =
+    let k = c .before .before .before in
+    let w = k .before .before .before in
+    handed (c .put-words2 .ensures)
+    (ap storedTold (k .prepend-key .ensures) ∙ sym (key-known _ _ _ _ (sym (w .before .before .wire-type .ensures) ∙ w .wire .given .1)))
 
 pub capgauze-prepend-key-spec : {M : Type 1} → statement M
-capgauze-prepend-key-spec = tie.close (tie.spec wire-type-requires enum-known-wire enum-told returns prepend-key-requires put-words-requires same-length returns-2)
+capgauze-prepend-key-spec =
+    tie.close
+    (tie.spec
+    wire-type-requires
+    enum-known-wire
+    enum-told
+    put-words-requires
+    returns
+    prepend-key-requires
+    put-words-requires-2
+    same-length
+    returns-2)

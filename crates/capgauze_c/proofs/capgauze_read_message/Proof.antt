@@ -1,6 +1,6 @@
 -- What the face answers and leaves, in words.
 use mathlib.Core.Path.{ap}
-use Rattle.capgauze_c.specs.Words.{handed, outcomeTold}
+use Rattle.c_words.specs.Words.{handed, outcomeTold}
 use borrow.Author.Needs.{needs}
 use Rattle.capgauze_c.proofs.capgauze_read_message.Statement.{statement}
 use Rattle.capgauze_c.proofs.capgauze_read_message.Tie as tie

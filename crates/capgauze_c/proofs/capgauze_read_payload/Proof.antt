@@ -1,7 +1,7 @@
 -- The payload's part, then the export that reads messages.
 use mathlib.Core.Path.{_∙_, ap}
 use Rattle.entry_message.specs.Messages.{part-bytes, payload-read}
-use Rattle.capgauze_c.specs.Words.{outcomeTold}
+use Rattle.c_words.specs.Words.{outcomeTold}
 use borrow.Author.Needs.{needs}
 use Rattle.capgauze_c.proofs.capgauze_read_payload.Statement.{statement}
 use Rattle.capgauze_c.proofs.capgauze_read_payload.Tie as tie

@@ -1,6 +1,6 @@
 -- What the face answers and leaves, in words.
 use mathlib.Core.Path.{ap}
-use Rattle.capgauze_c.specs.Words.{handed, levelsTold}
+use Rattle.c_words.specs.Words.{handed, levelsTold}
 use borrow.Author.Needs.{needs}
 use Rattle.capgauze_c.proofs.capgauze_read_sounding.Statement.{statement}
 use Rattle.capgauze_c.proofs.capgauze_read_sounding.Tie as tie

@@ -1,0 +1,79 @@
+-- Any two outcomes that a contract of this crate allows are equal: every word of the answer.
+use mathlib.Core.Path.{_∙_, sym}
+use Rattle.wire.specs.Only.{One}
+use Rattle.c_words.specs.Words.{asNumber, asVarint, asRead, asKey, asValue, asPlace, asStep, asWritten, asPicked, asSeveral, asEarly, asSounding}
+use Rattle.c_words.proofs.wire_type.Kinds as wire-type
+use Rattle.c_words.proofs.wire_type.Reads as wire-type-reads
+use Rattle.c_words.proofs.put_words.Kinds as put-words
+use Rattle.c_words.proofs.put_words.Reads as put-words-reads
+use Rattle.c_words.proofs.varint_words.Kinds as varint-words
+use Rattle.c_words.proofs.varint_words.Reads as varint-words-reads
+use Rattle.c_words.proofs.read_words.Kinds as read-words
+use Rattle.c_words.proofs.read_words.Reads as read-words-reads
+use Rattle.c_words.proofs.key_words.Kinds as key-words
+use Rattle.c_words.proofs.key_words.Reads as key-words-reads
+use Rattle.c_words.proofs.value_read_words.Kinds as value-read-words
+use Rattle.c_words.proofs.value_read_words.Reads as value-read-words-reads
+use Rattle.c_words.proofs.skipped_words.Kinds as skipped-words
+use Rattle.c_words.proofs.skipped_words.Reads as skipped-words-reads
+use Rattle.c_words.proofs.step_words.Kinds as step-words
+use Rattle.c_words.proofs.step_words.Reads as step-words-reads
+use Rattle.c_words.proofs.measured_words.Kinds as measured-words
+use Rattle.c_words.proofs.measured_words.Reads as measured-words-reads
+use Rattle.c_words.proofs.written_words.Kinds as written-words
+use Rattle.c_words.proofs.written_words.Reads as written-words-reads
+use Rattle.c_words.proofs.inserted_words.Kinds as inserted-words
+use Rattle.c_words.proofs.inserted_words.Reads as inserted-words-reads
+use Rattle.c_words.proofs.pick_words.Kinds as pick-words
+use Rattle.c_words.proofs.pick_words.Reads as pick-words-reads
+use Rattle.c_words.proofs.several_words.Kinds as several-words
+use Rattle.c_words.proofs.several_words.Reads as several-words-reads
+use Rattle.c_words.proofs.early_words.Kinds as early-words
+use Rattle.c_words.proofs.early_words.Reads as early-words-reads
+use Rattle.c_words.proofs.sounding_words.Kinds as sounding-words
+use Rattle.c_words.proofs.sounding_words.Reads as sounding-words-reads
+
+pub wire-type-one : One 0 wire-type.ps wire-type.r wire-type-reads.Post (λ κs r s. r)
+wire-type-one κs a x y s t p q = p ∙ sym q
+
+pub put-words-one : One 0 put-words.ps put-words.r put-words-reads.Post (λ κs r s. asNumber r)
+put-words-one κs a x y s t p q = p ∙ sym q
+
+pub varint-words-one : One 0 varint-words.ps varint-words.r varint-words-reads.Post (λ κs r s. asVarint r)
+varint-words-one κs a x y s t p q = p ∙ sym q
+
+pub read-words-one : One 0 read-words.ps read-words.r read-words-reads.Post (λ κs r s. asRead r)
+read-words-one κs a x y s t p q = p ∙ sym q
+
+pub key-words-one : One 0 key-words.ps key-words.r key-words-reads.Post (λ κs r s. asKey r)
+key-words-one κs a x y s t p q = p ∙ sym q
+
+pub value-read-words-one : One 0 value-read-words.ps value-read-words.r value-read-words-reads.Post (λ κs r s. asValue r)
+value-read-words-one κs a x y s t p q = p ∙ sym q
+
+pub skipped-words-one : One 0 skipped-words.ps skipped-words.r skipped-words-reads.Post (λ κs r s. asPlace r)
+skipped-words-one κs a x y s t p q = p ∙ sym q
+
+pub step-words-one : One 0 step-words.ps step-words.r step-words-reads.Post (λ κs r s. asStep r)
+step-words-one κs a x y s t p q = p ∙ sym q
+
+pub measured-words-one : One 0 measured-words.ps measured-words.r measured-words-reads.Post (λ κs r s. asNumber r)
+measured-words-one κs a x y s t p q = p ∙ sym q
+
+pub written-words-one : One 0 written-words.ps written-words.r written-words-reads.Post (λ κs r s. asWritten r)
+written-words-one κs a x y s t p q = p ∙ sym q
+
+pub inserted-words-one : One 0 inserted-words.ps inserted-words.r inserted-words-reads.Post (λ κs r s. asNumber r)
+inserted-words-one κs a x y s t p q = p ∙ sym q
+
+pub pick-words-one : One 0 pick-words.ps pick-words.r pick-words-reads.Post (λ κs r s. asPicked r)
+pick-words-one κs a x y s t p q = p ∙ sym q
+
+pub several-words-one : One 0 several-words.ps several-words.r several-words-reads.Post (λ κs r s. asSeveral r)
+several-words-one κs a x y s t p q = p ∙ sym q
+
+pub early-words-one : One 0 early-words.ps early-words.r early-words-reads.Post (λ κs r s. asEarly r)
+early-words-one κs a x y s t p q = p ∙ sym q
+
+pub sounding-words-one : One 0 sounding-words.ps sounding-words.r sounding-words-reads.Post (λ κs r s. asSounding r)
+sounding-words-one κs a x y s t p q = p ∙ sym q

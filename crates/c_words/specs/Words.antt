@@ -1,0 +1,165 @@
+-- The words that C is handed: each struct of the interface as the answer that the face tells.
+use Prim.Native.Nat.{ℕ, zero, suc, _≤_}
+use mathlib.Core.Path.{_≡_, refl}
+use mathlib.Core.List.{List}
+use native.Mathlib.Omega.{arith}
+use Rattle.entry_answer.specs.Told as told
+use Rattle.entry_answer.specs.Told.{putTold, readTold, writtenTold, insertedTold}
+use Rattle.write_message.specs.Writing.{Writing}
+use Rattle.write_insertion.specs.Insertion.{Insertion}
+use Rattle.entry_answer.specs.Stores.{Stored}
+use Rattle.wire.specs.Numbers.{numberOf}
+use Rattle.wire.specs.Table.{kindWord, valueWord, lengthWord}
+use Rattle.wire.specs.declared.Field.{Field}
+use Rattle.wire.specs.declared.Refusal.the-variants.{BadRecord}
+use Rattle.wire.specs.declared.WireType.{WireType}
+use Rattle.wire.specs.declared.WireType.the-variants as wireType
+use Rattle.message_table.specs.Into.{Outcome}
+use Rattle.message_payload.specs.declared.Span.{Span}
+use Rattle.sounding.specs.Told as soundings
+use Rattle.sounding.specs.Told.{soundingTold}
+use Rattle.sounding.specs.Words as levels
+use Rattle.c_words.specs.declared.Number.{Number}
+use Rattle.c_words.specs.declared.Varint.{Varint}
+use Rattle.c_words.specs.declared.ReadWords.{ReadWords}
+use Rattle.c_words.specs.declared.PickWords.{PickWords}
+use Rattle.c_words.specs.declared.LookupWords.{LookupWords}
+use Rattle.c_words.specs.declared.Part.{Part}
+use Rattle.c_words.specs.declared.SoundingWords.{SoundingWords}
+use Rattle.c_words.specs.declared.KeyWords.{KeyWords}
+use Rattle.c_words.specs.declared.ValueWords.{ValueWords}
+use Rattle.c_words.specs.declared.PlaceWords.{PlaceWords}
+use Rattle.c_words.specs.declared.StepWords.{StepWords}
+use Rattle.c_words.specs.declared.WrittenWords.{WrittenWords}
+use Rattle.c_words.specs.declared.Typed.{Typed}
+use Rattle.c_words.specs.declared.Typed.the-variants.{Is, Unknown}
+
+abbrev pub asNumber : Number → told.Number
+asNumber r = record { number = r .number; value = r .value }
+
+abbrev pub asVarint : Varint → told.Varint
+asVarint r = record { number = r .number; value = r .value; place = r .place }
+
+abbrev pub asRead : ReadWords → told.Message
+asRead r = record { number = r .number; place = r .place; count = r .count }
+
+abbrev pub asPicked : PickWords → told.Pick
+asPicked r = record { number = r .number; found = r .found; type = r .kind; value = r .value; length = r .length }
+
+abbrev pub asSeveral : LookupWords → told.Several
+asSeveral r = record { number = r .number; count = r .many; found = r .found; type = r .kind; value = r .value; length = r .length }
+
+abbrev pub asEarly : LookupWords → told.Early
+asEarly r = record { number = r .number; keys = r .many; found = r .found; type = r .kind; value = r .value; length = r .length }
+
+-- a lookup's words where a field was found, and where none was
+abbrev pub foundWords : ℕ → Field → LookupWords
+foundWords n f = record { number = 0; many = n; found = 1; kind = kindWord (f .value); value = valueWord (f .value); length = lengthWord (f .value) }
+
+abbrev pub noneWords : ℕ → ℕ → LookupWords
+noneWords k n = record { number = k; many = n; found = 0; kind = 0; value = 0; length = 0 }
+
+abbrev pub uncountedOf : LookupWords → PickWords
+uncountedOf w = record { number = w .number; found = w .found; kind = w .kind; value = w .value; length = w .length }
+
+abbrev pub asKey : KeyWords → told.Key
+asKey r = record { number = r .number; tag = r .tag; type = r .kind; place = r .place }
+
+abbrev pub asValue : ValueWords → told.Value
+asValue r = record { number = r .number; value = r .value; length = r .length; place = r .place }
+
+abbrev pub asPlace : PlaceWords → told.Place
+asPlace r = record { number = r .number; place = r .place }
+
+abbrev pub asStep : StepWords → told.Field
+asStep r =
+    record { number = r .number; found = r .found; tag = r .tag; type = r .kind; value = r .value; length = r .length; place = r .place }
+
+abbrev pub asWritten : WrittenWords → told.Wrote
+asWritten r = record { number = r .number; start = r .start; length = r .length }
+
+abbrev pub asPart : Part → Span
+asPart p = record { start = p .start; length = p .length }
+
+abbrev pub asSounding : SoundingWords → soundings.Heading
+asSounding r = record { number = r .number; station = r .station; launch = r .launch; levels = r .levels }
+
+-- what is told, and what the lent memory holds
+pub record Lent (A : Type 0) : Type 0 where
+  pub told : A
+  pub lent : List ℕ
+
+abbrev pub storedTold : Stored → Lent told.Number
+storedTold o = record { told = putTold (o .answer); lent = o .buf }
+
+abbrev pub outcomeTold : Outcome → Lent told.Message
+outcomeTold o = record { told = readTold (o .answer); lent = o .table }
+
+abbrev pub writingTold : Writing → Lent told.Wrote
+writingTold o = record { told = writtenTold (o .answer); lent = o .buf }
+
+abbrev pub insertionTold : Insertion → Lent told.Number
+insertionTold o = record { told = insertedTold (o .answer); lent = o .table }
+
+abbrev pub levelsTold : levels.Outcome → Lent soundings.Heading
+levelsTold o = record { told = soundingTold (o .answer); lent = o .levels }
+
+-- a told answer in words, with what is lent beside it
+pub handed : {A : Type 0} {t u : A} {l : List ℕ} {o : Lent A} → t ≡ u → _≡_ {A = Lent A} (record { told = u; lent = l }) o → _≡_ {A = Lent A} (record { told = t; lent = l }) o
+handed e f = rw e f
+
+-- ---- a wire type passed as a number: one above 3 is BadRecord, before all else, with what the entry's other refusals carry
+
+unfoldable pub typedOf : ℕ → Typed
+typedOf zero = Is wireType.Varint
+typedOf (suc zero) = Is wireType.LengthDelimited
+typedOf (suc (suc zero)) = Is wireType.ThirtyTwoBit
+typedOf (suc (suc (suc zero))) = Is wireType.SixtyFourBit
+typedOf (suc (suc (suc (suc n)))) = Unknown
+
+unfoldable pub keyStored : List ℕ → Typed → (WireType → Stored) → Lent told.Number
+keyStored b (Is w) f = storedTold (f w)
+keyStored b Unknown f = record { told = record { number = numberOf BadRecord; value = 0 }; lent = b }
+
+unfoldable pub valueTyped : ℕ → Typed → (WireType → told.Value) → told.Value
+valueTyped at (Is w) f = f w
+valueTyped at Unknown f = record { number = numberOf BadRecord; value = 0; length = 0; place = at }
+
+unfoldable pub placeTyped : ℕ → Typed → (WireType → told.Place) → told.Place
+placeTyped at (Is w) f = f w
+placeTyped at Unknown f = record { number = numberOf BadRecord; place = at }
+
+-- their cases
+pub typed-above : (n : ℕ) → 4 ≤ n → typedOf n ≡ Unknown
+unfolding typedOf
+typed-above zero h = absurd (omega arith)
+typed-above (suc zero) h = absurd (omega arith)
+typed-above (suc (suc zero)) h = absurd (omega arith)
+typed-above (suc (suc (suc zero))) h = absurd (omega arith)
+typed-above (suc (suc (suc (suc n)))) h = refl
+
+pub key-unknown : (b : List ℕ) (t : Typed) (f : WireType → Stored) → t ≡ Unknown
+    → keyStored b t f ≡ record { told = record { number = numberOf BadRecord; value = 0 }; lent = b }
+unfolding keyStored
+key-unknown b t f e = rw e
+
+pub key-known : (b : List ℕ) (t : Typed) (f : WireType → Stored) (w : WireType) → t ≡ Is w → keyStored b t f ≡ storedTold (f w)
+unfolding keyStored
+key-known b t f w e = rw e
+
+pub value-unknown : (at : ℕ) (t : Typed) (f : WireType → told.Value) → t ≡ Unknown
+    → valueTyped at t f ≡ record { number = numberOf BadRecord; value = 0; length = 0; place = at }
+unfolding valueTyped
+value-unknown at t f e = rw e
+
+pub value-known : (at : ℕ) (t : Typed) (f : WireType → told.Value) (w : WireType) → t ≡ Is w → valueTyped at t f ≡ f w
+unfolding valueTyped
+value-known at t f w e = rw e
+
+pub place-unknown : (at : ℕ) (t : Typed) (f : WireType → told.Place) → t ≡ Unknown → placeTyped at t f ≡ record { number = numberOf BadRecord; place = at }
+unfolding placeTyped
+place-unknown at t f e = rw e
+
+pub place-known : (at : ℕ) (t : Typed) (f : WireType → told.Place) (w : WireType) → t ≡ Is w → placeTyped at t f ≡ f w
+unfolding placeTyped
+place-known at t f w e = rw e

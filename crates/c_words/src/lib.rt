@@ -1,0 +1,458 @@
+// The words that C is handed for each answer: plain structs whose first word is the refusal's number, and what an answer is worth in them. `told` says
+// what the words are.
+ghost use mathlib.Core.Path.{_≡_};
+ghost use Rattle.wire.specs.Table.{kindWord, valueWord, lengthWord};
+ghost use Rattle.entry_answer.specs.Told.{putTold, varintTold, readTold, pickedTold, severalTold, earlyTold, measuredTold, keyTold, valueTold, skippedTold, stepTold, writtenTold, insertedTold};
+ghost use Rattle.sounding.specs.Told.{soundingTold};
+ghost use Rattle.c_words.specs.Words.{asNumber, asVarint, asRead, asPicked, asSeveral, asEarly, asWritten, asKey, asValue, asPlace, asStep, asSounding};
+ghost use Rattle.c_words.specs.Words.{typedOf, foundWords, noneWords, uncountedOf};
+use entry_answer::KeyRead;
+use entry_answer::Measured;
+use entry_answer::Picked;
+use entry_answer::Put;
+use entry_answer::Several;
+use entry_answer::Skipped;
+use entry_answer::Step;
+use entry_answer::ValueRead;
+use entry_answer::VarintRead;
+use sounding::Sounding;
+use wire::Early;
+use wire::Field;
+use wire::Inserted;
+use wire::Read;
+use wire::Value;
+use wire::WireType;
+use wire::Written;
+
+// A length or a count.
+#[repr(C)]
+pub struct Number {
+    pub number: u64,
+    pub value: u64,
+}
+
+#[repr(C)]
+pub struct Varint {
+    pub number: u64,
+    pub value: u64,
+    pub place: u64,
+}
+
+#[repr(C)]
+pub struct ReadWords {
+    pub number: u64,
+    pub place: u64,
+    pub count: u64,
+}
+
+#[repr(C)]
+pub struct PickWords {
+    pub number: u64,
+    pub found: u64,
+    pub kind: u64,
+    pub value: u64,
+    pub length: u64,
+}
+
+// A lookup that counts: how many fields of the tag there are, or how many keys were read; and the field that was found.
+#[repr(C)]
+pub struct LookupWords {
+    pub number: u64,
+    pub many: u64,
+    pub found: u64,
+    pub kind: u64,
+    pub value: u64,
+    pub length: u64,
+}
+
+#[repr(C)]
+pub struct Part {
+    pub start: u64,
+    pub length: u64,
+}
+
+#[repr(C)]
+pub struct KeyWords {
+    pub number: u64,
+    pub tag: u64,
+    pub kind: u64,
+    pub place: u64,
+}
+
+#[repr(C)]
+pub struct ValueWords {
+    pub number: u64,
+    pub value: u64,
+    pub length: u64,
+    pub place: u64,
+}
+
+#[repr(C)]
+pub struct PlaceWords {
+    pub number: u64,
+    pub place: u64,
+}
+
+#[repr(C)]
+pub struct StepWords {
+    pub number: u64,
+    pub found: u64,
+    pub tag: u64,
+    pub kind: u64,
+    pub value: u64,
+    pub length: u64,
+    pub place: u64,
+}
+
+#[repr(C)]
+pub struct WrittenWords {
+    pub number: u64,
+    pub start: u64,
+    pub length: u64,
+}
+
+// A number as a wire type, if it is one.
+pub enum Typed {
+    Is(WireType),
+    Unknown,
+}
+
+#[repr(C)]
+pub struct SoundingWords {
+    pub number: u64,
+    pub station: u64,
+    pub launch: u64,
+    pub levels: u64,
+}
+
+pub fn wire_type(kind: u64) -> Typed
+    ensures { λ r. ⌜ r ≡ typedOf kind ⌝ }
+{
+    match kind {
+        0 => Typed::Is(WireType::Varint),
+        1 => Typed::Is(WireType::LengthDelimited),
+        2 => Typed::Is(WireType::ThirtyTwoBit),
+        3 => Typed::Is(WireType::SixtyFourBit),
+        _ => Typed::Unknown,
+    }
+}
+
+// ---- the words of each answer
+
+struct ValueParts {
+    kind: u64,
+    value: u64,
+    length: u64,
+}
+
+// A value as the last three words of its record.
+fn value_words(v: Value) -> ValueParts
+    ensures { λ r. ⌜ (r .kind ≡ kindWord v) × (r .value ≡ valueWord v) × (r .length ≡ lengthWord v) ⌝ }
+{
+    match v {
+        Value::Varint(n) => ValueParts {
+            kind: 0,
+            value: n,
+            length: 0,
+        },
+        Value::LengthDelimited(p, n) => ValueParts {
+            kind: 1,
+            value: p as u64,
+            length: n as u64,
+        },
+        Value::ThirtyTwoBit(n) => ValueParts {
+            kind: 2,
+            value: n as u64,
+            length: 4,
+        },
+        Value::SixtyFourBit(n) => ValueParts {
+            kind: 3,
+            value: n,
+            length: 8,
+        },
+    }
+}
+
+pub fn put_words(p: Put) -> Number
+    ensures { λ r. ⌜ asNumber r ≡ putTold p ⌝ }
+{
+    match p {
+        Put::Done(n) => Number {
+            number: 0,
+            value: n as u64,
+        },
+        Put::Refused(r) => Number {
+            number: wire::number_of(r),
+            value: 0,
+        },
+    }
+}
+
+pub fn varint_words(v: VarintRead) -> Varint
+    ensures { λ r. ⌜ asVarint r ≡ varintTold v ⌝ }
+{
+    match v {
+        VarintRead::Got(n, next) => Varint {
+            number: 0,
+            value: n,
+            place: next as u64,
+        },
+        VarintRead::Refused(r, at) => Varint {
+            number: wire::number_of(r),
+            value: 0,
+            place: at as u64,
+        },
+    }
+}
+
+pub fn read_words(m: Read) -> ReadWords
+    ensures { λ r. ⌜ asRead r ≡ readTold m ⌝ }
+{
+    match m {
+        Read::Accepted(p, n) => ReadWords {
+            number: 0,
+            place: p as u64,
+            count: n as u64,
+        },
+        Read::Refused(r, p, n) => ReadWords {
+            number: wire::number_of(r),
+            place: p as u64,
+            count: n as u64,
+        },
+    }
+}
+
+pub fn key_words(k: KeyRead) -> KeyWords
+    ensures { λ r. ⌜ asKey r ≡ keyTold k ⌝ }
+{
+    match k {
+        KeyRead::Got(key, next) => {
+            let wire = key.wire;
+            KeyWords {
+                number: 0,
+                tag: key.tag as u64,
+                kind: field_key::wire_number(wire),
+                place: next as u64,
+            }
+        }
+        KeyRead::Refused(r, at, last) => KeyWords {
+            number: wire::number_of(r),
+            tag: last as u64,
+            kind: 0,
+            place: at as u64,
+        },
+    }
+}
+
+pub fn value_read_words(v: ValueRead) -> ValueWords
+    ensures { λ r. ⌜ asValue r ≡ valueTold v ⌝ }
+{
+    match v {
+        ValueRead::Got(x, next) => {
+            let w = value_words(x);
+            ValueWords {
+                number: 0,
+                value: w.value,
+                length: w.length,
+                place: next as u64,
+            }
+        }
+        ValueRead::Refused(r, at) => ValueWords {
+            number: wire::number_of(r),
+            value: 0,
+            length: 0,
+            place: at as u64,
+        },
+    }
+}
+
+pub fn skipped_words(k: Skipped) -> PlaceWords
+    ensures { λ r. ⌜ asPlace r ≡ skippedTold k ⌝ }
+{
+    match k {
+        Skipped::To(q) => PlaceWords {
+            number: 0,
+            place: q as u64,
+        },
+        Skipped::Refused(r, at) => PlaceWords {
+            number: wire::number_of(r),
+            place: at as u64,
+        },
+    }
+}
+
+pub fn step_words(at: usize, last: u32, k: Step) -> StepWords
+    ensures { λ r. ⌜ asStep r ≡ stepTold at last k ⌝ }
+{
+    match k {
+        Step::Field(f, next) => {
+            let v = f.value;
+            let w = value_words(v);
+            StepWords {
+                number: 0,
+                found: 1,
+                tag: f.tag as u64,
+                kind: w.kind,
+                value: w.value,
+                length: w.length,
+                place: next as u64,
+            }
+        }
+        Step::End => no_field(0, at, last),
+        Step::Refused(r, p, t) => no_field(wire::number_of(r), p, t),
+    }
+}
+
+// The end, or a refusal: no field, a place and a last tag.
+fn no_field(number: u64, place: usize, tag: u32) -> StepWords
+    ensures { λ r. ⌜ asStep r ≡ record { number = number; found = 0; tag = tag; type = 0; value = 0; length = 0; place = place } ⌝ }
+{
+    StepWords {
+        number: number,
+        found: 0,
+        tag: tag as u64,
+        kind: 0,
+        value: 0,
+        length: 0,
+        place: place as u64,
+    }
+}
+
+pub fn measured_words(m: Measured) -> Number
+    ensures { λ r. ⌜ asNumber r ≡ measuredTold m ⌝ }
+{
+    match m {
+        Measured::Length(n) => Number {
+            number: 0,
+            value: n as u64,
+        },
+        Measured::Refused(r) => Number {
+            number: wire::number_of(r),
+            value: 0,
+        },
+    }
+}
+
+pub fn written_words(w: Written) -> WrittenWords
+    ensures { λ r. ⌜ asWritten r ≡ writtenTold w ⌝ }
+{
+    match w {
+        Written::At(p, n) => WrittenWords {
+            number: 0,
+            start: p as u64,
+            length: n as u64,
+        },
+        Written::Refused(r, p, n) => WrittenWords {
+            number: wire::number_of(r),
+            start: p as u64,
+            length: n as u64,
+        },
+    }
+}
+
+pub fn inserted_words(i: Inserted) -> Number
+    ensures { λ r. ⌜ asNumber r ≡ insertedTold i ⌝ }
+{
+    match i {
+        Inserted::Count(n) => Number {
+            number: 0,
+            value: n as u64,
+        },
+        Inserted::Refused(r, n) => Number {
+            number: wire::number_of(r),
+            value: n as u64,
+        },
+    }
+}
+
+// A field that was found, and how many there are.
+fn found_words(many: usize, f: Field) -> LookupWords
+    ensures { λ r. ⌜ r ≡ foundWords many f ⌝ }
+{
+    let v = f.value;
+    let w = value_words(v);
+    LookupWords {
+        number: 0,
+        many: many as u64,
+        found: 1,
+        kind: w.kind,
+        value: w.value,
+        length: w.length,
+    }
+}
+
+// No field: none there, or a refusal.
+fn none_words(number: u64, many: usize) -> LookupWords
+    ensures { λ r. ⌜ r ≡ noneWords number many ⌝ }
+{
+    LookupWords {
+        number: number,
+        many: many as u64,
+        found: 0,
+        kind: 0,
+        value: 0,
+        length: 0,
+    }
+}
+
+// The same without the count.
+fn uncounted(w: LookupWords) -> PickWords
+    ensures { λ r. ⌜ r ≡ uncountedOf w ⌝ }
+{
+    PickWords {
+        number: w.number,
+        found: w.found,
+        kind: w.kind,
+        value: w.value,
+        length: w.length,
+    }
+}
+
+pub fn pick_words(p: Picked) -> PickWords
+    ensures { λ r. ⌜ asPicked r ≡ pickedTold p ⌝ }
+{
+    match p {
+        Picked::Found(f) => uncounted(found_words(1, f)),
+        Picked::Absent => uncounted(none_words(0, 0)),
+        Picked::Refused(r) => uncounted(none_words(wire::number_of(r), 0)),
+    }
+}
+
+pub fn several_words(p: Several) -> LookupWords
+    ensures { λ r. ⌜ asSeveral r ≡ severalTold p ⌝ }
+{
+    match p {
+        Several::Found(n, f) => found_words(n, f),
+        Several::Absent(n) => none_words(0, n),
+        Several::Refused(r) => none_words(wire::number_of(r), 0),
+    }
+}
+
+pub fn early_words(p: Early) -> LookupWords
+    ensures { λ r. ⌜ asEarly r ≡ earlyTold p ⌝ }
+{
+    match p {
+        Early::Found(f, n) => found_words(n, f),
+        Early::Absent(n) => none_words(0, n),
+        Early::Refused(r) => none_words(wire::number_of(r), 0),
+    }
+}
+
+pub fn sounding_words(a: Sounding) -> SoundingWords
+    ensures { λ r. ⌜ asSounding r ≡ soundingTold a ⌝ }
+{
+    match a {
+        Sounding::Read(h) => SoundingWords {
+            number: 0,
+            station: h.station,
+            launch: h.launch,
+            levels: h.levels as u64,
+        },
+        Sounding::Refused(r) => SoundingWords {
+            number: wire::number_of(r),
+            station: 0,
+            launch: 0,
+            levels: 0,
+        },
+    }
+}
