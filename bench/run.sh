@@ -13,6 +13,7 @@ here=$(cd "$(dirname "$0")" && pwd)
 root=$here/..
 . "$root/tools/x86-64.sh"
 archive
+"$here/folded.sh" "$CAPGAUZE_ARCHIVE"
 t=$here/target
 rm -rf "$t/obj" "$t/counts"
 mkdir -p "$t/obj" "$t/counts"

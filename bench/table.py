@@ -2,8 +2,10 @@
 """table.py LOADS TIMES COUNTS: one table of what the driver and the counter wrote; either of the last two may be empty."""
 import sys
 
-KINDS = ["read", "write", "prepend", "measure", "pick", "floor"]
-OURS, SAME = "OURS", "rust-same"  # the ratio that the goals are about
+KINDS = ["read", "write", "prepend", "measure", "sounding", "pick", "pick_at", "floor"]
+OURS = "OURS"
+SAME = ["rust-same", "c-same:gcc", "c-same:clang"]  # the ratios that the goals are about
+PASS_ONE = "read", "OURS-pass-one"
 
 
 def rows(path):
@@ -54,8 +56,12 @@ def main(loads, times, counts):
             continue
         part(f"{what} a message", numbers.get, whole)
         part(f"{what} a field", over(numbers, fields), lambda _: digits)
-        part(f"{what}: ours over the same job by the Rust's functions ({SAME})",
-             over(numbers, lambda key: numbers.get((key[0], SAME, key[2]))), lambda _: 2, ours)
+        for same in SAME:
+            part(f"{what}: ours over the same job by {same}",
+                 over(numbers, lambda key: numbers.get((key[0], same, key[2]))), lambda _: 2, ours)
+        part(f"{what}: our lookups over pass one",
+             over(numbers, lambda key: numbers.get((*PASS_ONE, key[2]))), lambda _: 2,
+             lambda kind, peer: ours(kind, peer) and kind.startswith("pick"))
     if best:
         part("layout: the worst layout's best over the best", over(worst, best.get), lambda _: 2)
         part("noise: median over best", over(median, best.get), lambda _: 2)

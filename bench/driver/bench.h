@@ -12,6 +12,9 @@ extern "C" {
 #define SLACK 64                  /* bytes that may be touched behind a load and a buffer, for peers that look ahead */
 #define MESSAGE_LIMIT 65535
 #define RECORD 4 /* words a record: tag, type, value or payload's start, length */
+#define LEVEL 5  /* words a level: pressure; temperature and depression, each 1 and the number, or 0 and all ones */
+#define LAUNCH_TAG 2
+#define LEVEL_TAG 3
 
 /* One load: the same fields in two formats, and the records that a table reader must make of them. */
 typedef struct Load {
@@ -25,12 +28,23 @@ typedef struct Load {
     size_t fields;     /* of the message */
     size_t all_fields; /* with those of its payloads, where deep */
     const uint64_t *records;
-    uint64_t launch; /* of a sounding: what stands under tag 2; else 0 */
+    int sounding;            /* 1: what follows is said, and the jobs on soundings are run */
+    uint64_t station, launch;
+    size_t levels, number;   /* number: of the level that pick_at looks up */
+    const uint64_t *words;   /* of its levels */
 } Load;
+
+/* What the jobs on a sounding answer; refused: the number alone. */
+typedef struct Sounding {
+    uint64_t refusal, station, launch, levels;
+} Sounding;
+typedef struct Found {
+    uint64_t refusal, count, found, type, value, len;
+} Found;
 
 /* What a job may use, made before a clock runs. */
 typedef struct Work {
-    uint64_t *table; /* room for every field of the load; for a writer its records */
+    uint64_t *table; /* room for every field of the load, or every level; for a writer its records */
     size_t table_words;
     uint64_t *inner; /* a second table, for the payloads of a deep load */
     size_t inner_words;
@@ -38,18 +52,21 @@ typedef struct Work {
     size_t out_len;
     const uint8_t *wrote; /* set by a writer: where its bytes lie */
     void *own;            /* what prepare returned */
+    Sounding sounding;    /* set by a reader of soundings */
+    Found found;          /* set by a lookup */
 } Work;
 
-typedef enum { READ, WRITE, PREPEND, MEASURE, PICK, FLOOR } Kind;
+typedef enum { READ, WRITE, PREPEND, MEASURE, SOUNDING, PICK, PICK_AT, FLOOR } Kind;
 
 typedef struct Job {
     Kind kind;
     const char *name; /* the peer */
     int fills;        /* a reader whose records stand in work->table, where they are compared */
-    int keeps;        /* nothing is touched that the paper says stays: a refused read's table, what is behind a buffer */
+    int keeps;        /* nothing is touched that the paper says stays: a refused read's table, what is behind a buffer; and a
+                         sounding or a lookup is refused by the paper's number */
     int pb;           /* works on the protobuf bytes */
     void *(*prepare)(const Load *, Work *);
-    /* A reader: the number of fields, or REFUSED. A writer or a measurer: the length. A lookup: the launch. */
+    /* A reader: the number of fields, or REFUSED. A writer or a measurer: the length. Others: anything. */
     uint64_t (*run)(const Load *, Work *);
 } Job;
 

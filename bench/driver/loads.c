@@ -48,7 +48,8 @@ typedef struct {
     Bytes bil, pb;
     uint32_t tag;
     uint64_t *rec;
-    size_t n, room, inner;
+    size_t n, room, inner, levels;
+    uint64_t *words; /* of the levels */
 } Msg;
 static void record(Msg *m, uint64_t type, uint64_t value, uint64_t len) {
     if (m->n == m->room) m->rec = realloc(m->rec, 8 * RECORD * (m->room = m->room ? 2 * m->room : 64));
@@ -98,23 +99,36 @@ static uint64_t mixed(void) {
 }
 static uint32_t rise(const Msg *m) { return m->n == 0 ? 1 : below(16) == 0; } /* mostly repeated tags */
 
+#define STATION 11035
 #define LAUNCH 1763164800
-static Msg sounding_of(int levels) {
-    Msg m = {0};
-    varint(&m, 1, 11035);
+enum { PLAIN, GAPS, FIVE };
+/* What a sensor measured, below `most`; one in `odds` is missing: all ones, or with gaps no field at all. */
+static void measured(Msg *level, uint32_t tag, uint64_t odds, uint64_t most, int gaps, uint64_t *words) {
+    uint64_t v = below(odds) == 0 ? UINT64_MAX : below(most);
+    if (!gaps || v != UINT64_MAX) varint(level, tag - level->tag, v);
+    words[0] = v != UINT64_MAX, words[1] = v;
+}
+static Msg sounding_of(size_t levels, int shape) {
+    Msg m = {.levels = levels, .words = malloc(8 * LEVEL * levels)};
+    uint64_t *words = m.words;
+    int gaps = shape == GAPS;
+    varint(&m, 1, STATION);
     varint(&m, 1, LAUNCH);
-    for (int i = 0; i < levels; i++) {
+    for (size_t i = 0; i < levels; i++, words += LEVEL) {
         Msg level = {0};
-        varint(&level, 1, 101325 - 830 * (i % 120) - below(100));
-        varint(&level, 1, below(20) == 0 ? UINT64_MAX : below(1200));
-        varint(&level, 1, below(8) == 0 ? UINT64_MAX : below(600));
+        varint(&level, 1, words[0] = 101325 - 830 * (i % 120) - below(100));
+        measured(&level, 2, gaps ? 6 : 20, 1200, gaps, words + 1);
+        measured(&level, 3, gaps ? 4 : 8, 600, gaps, words + 3);
+        if (shape == FIVE) varint(&level, 1, below(2000)), varint(&level, 1, below(360));
         m.inner += level.n;
         payload(&m, i == 0, &level.bil, &level.pb);
     }
     return m;
 }
-static Msg sounding(void) { return sounding_of(120); }
-static Msg long_sounding(void) { return sounding_of(4000); }
+static Msg sounding(void) { return sounding_of(120, PLAIN); }
+static Msg with_gaps(void) { return sounding_of(120, GAPS); }
+static Msg of_five_tags(void) { return sounding_of(120, FIVE); }
+static Msg long_sounding(void) { return sounding_of(4000, PLAIN); }
 static Msg one_byte_varints(void) {
     Msg m = {0};
     while (m.bil.n + 12 <= MESSAGE_LIMIT) varint(&m, rise(&m), of_len(1));
@@ -161,7 +175,8 @@ static Load load(const char *name, uint64_t seed, Msg make(void), int good, int 
     state = seed;
     Msg m = make();
     Load l = {.name = name, .good = good, .deep = deep, .fields = m.n, .all_fields = m.n + (deep ? m.inner : 0),
-              .launch = m.inner && !deep ? LAUNCH : 0, .records = m.rec, .len = m.bil.n - !good, .pb_len = m.pb.n - !good};
+              .sounding = m.levels > 0, .station = STATION, .launch = LAUNCH, .levels = m.levels, .number = 60,
+              .words = m.words, .records = m.rec, .len = m.bil.n - !good, .pb_len = m.pb.n - !good};
     l.bytes = memcpy(calloc(1, l.len + SLACK), m.bil.p, l.len);
     l.pb = memcpy(calloc(1, l.pb_len + SLACK), m.pb.p, l.pb_len);
     return l;
@@ -172,8 +187,63 @@ size_t make_loads(Load *out) {
         load("S", 1, sounding, 1, 0),         load("SN", 1, sounding, 1, 1),     load("V1", 2, one_byte_varints, 1, 0),
         load("VM", 3, mixed_varints, 1, 0),   load("P", 4, payloads, 1, 0),      load("F", 5, fixed_values, 1, 0),
         load("X", 6, all_types, 1, 0),        load("T", 7, tiny, 1, 0),          load("B", 3, mixed_varints, 0, 0),
-        load("SL", 1, long_sounding, 1, 0),
+        load("SL", 1, long_sounding, 1, 0),   load("SG", 8, with_gaps, 1, 0),    load("S5", 9, of_five_tags, 1, 0),
     };
     memcpy(out, all, sizeof all);
     return sizeof all / sizeof *all;
+}
+
+/* ---- Soundings for the check of refusals ---- */
+
+/* A field that is mostly as it should be: else left out, sent twice, of another type, at an edge, or all ones. */
+static void doubtful(Msg *m, uint32_t tag, uint64_t most) {
+    static const uint64_t EDGE[] = {0, 600, 601, 2000, 2001, 2002, 2999, 3000, 3001, 99999, 100000, 110000, 110001};
+    uint32_t up = tag - m->tag;
+    uint64_t v = 1 + below(most);
+    switch (below(40)) {
+    case 0: return;
+    case 1: varint(m, up, v); up = 0; break;
+    case 2: fixed(m, up, below(2) ? 4 : 8, v); return;
+    case 3: v = EDGE[below(sizeof EDGE / sizeof *EDGE)]; break;
+    case 4: v = UINT64_MAX;
+    }
+    varint(m, up, v);
+}
+/* Fields that nobody asks for; seldom a tag that is too high. */
+static void unknown(Msg *m) {
+    if (below(4) == 0) random_payload(m, 4, below(12));
+    if (below(4) == 0) varint(m, 1, mixed());
+    if (below(60) == 0) varint(m, UINT32_MAX, 7);
+}
+static void damage(Bytes *b) {
+    size_t at = b->n ? below(b->n) : 0;
+    switch (b->n ? below(8) : 7) {
+    case 0: b->p[at] = next(); break;
+    case 1: b->p[at] ^= 1 << below(8); break;
+    case 2: b->n = at; break;
+    case 3: memset(b->p + at, 0xFF, b->n - at < 9 ? b->n - at : 9);
+    }
+}
+/* A sounding of a few levels, some of it wrong, with room for `levels` of them; the first is longer than a message may be. */
+Load broken_sounding(uint64_t seed) {
+    state = seed;
+    Msg m = {0};
+    doubtful(&m, 1, 99999);
+    doubtful(&m, LAUNCH_TAG, 100000);
+    for (uint64_t n = below(6); n > 0; n--) {
+        Msg level = {0};
+        doubtful(&level, 1, 110000);
+        doubtful(&level, 2, 2000);
+        doubtful(&level, 3, 600);
+        unknown(&level);
+        if (below(4) == 0) damage(&level.bil);
+        if (below(40) == 0) doubtful(&m, LEVEL_TAG, 600);
+        else payload(&m, LEVEL_TAG - m.tag, &level.bil, &level.pb);
+    }
+    unknown(&m);
+    if (seed == 0) random_payload(&m, 9, MESSAGE_LIMIT);
+    if (below(2)) damage(&m.bil);
+    Load l = {.name = "a broken sounding", .len = m.bil.n, .levels = below(8), .number = below(4)};
+    l.bytes = memcpy(calloc(1, l.len + SLACK), m.bil.p, l.len);
+    return l;
 }

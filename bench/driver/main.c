@@ -1,4 +1,4 @@
-/* bench check            every job once on every load, answers compared
+/* bench check            every job once on every load, answers compared; then broken soundings
  * bench loads            the loads
  * bench time [LOAD..]    best and median nanoseconds a message, a line for each job and load
  * bench count [LOAD..]   the calls between count_begin and count_end, which run.sh has counted; a line for each */
@@ -8,10 +8,11 @@
 #include <string.h>
 #include <time.h>
 
-#define MAX_JOBS 64
+#define MAX_JOBS 80
 #define MAX_ROUNDS 400
+#define BROKEN 6000
 
-static const char *KIND[] = {"read", "write", "prepend", "measure", "pick", "floor"};
+static const char *KIND[] = {"read", "write", "prepend", "measure", "sounding", "pick", "pick_at", "floor"};
 static Job jobs[MAX_JOBS];
 static size_t job_count;
 static Load loads[MAX_LOADS];
@@ -32,22 +33,25 @@ static void fail(const Job *j, const Load *l, const char *what, uint64_t got) {
 static uint64_t poison(size_t i) { return 0xA5A5A5A5A5A5A5A5u + i; }
 
 static void prepare(const Job *j, const Load *l, Work *w) {
-    w->table_words = RECORD * l->fields;
+    w->table_words = j->kind == SOUNDING ? LEVEL * l->levels : RECORD * l->fields;
     w->table = malloc(8 * (w->table_words + 8));
     for (size_t i = 0; i < w->table_words + 8; i++) w->table[i] = poison(i);
-    if (j->kind != READ) memcpy(w->table, l->records, 8 * w->table_words);
+    if (l->records && j->kind != READ && j->kind != SOUNDING) memcpy(w->table, l->records, 8 * w->table_words);
     w->inner_words = RECORD * 64;
     w->inner = malloc(8 * w->inner_words);
     w->out_len = j->pb ? l->pb_len : l->len;
     w->out = memset(malloc(w->out_len + SLACK), 0xA5, w->out_len + SLACK);
     w->own = j->prepare ? j->prepare(l, w) : 0;
 }
+static void check_kept(const Job *j, const Load *l, const Work *w, size_t from) {
+    for (size_t i = from; i < w->table_words + 8; i++)
+        if (w->table[i] != poison(i)) fail(j, l, "a word changed that must stay", i);
+}
 static void check_read(const Job *j, const Load *l, const Work *w, uint64_t got) {
     if (got != (l->good ? l->all_fields : REFUSED)) fail(j, l, "wrong count", got);
     if (!j->fills) return;
     if (l->good && memcmp(w->table, l->records, 8 * w->table_words)) fail(j, l, "wrong records", got);
-    for (size_t i = l->good || !j->keeps ? w->table_words : 0; i < w->table_words + 8; i++)
-        if (w->table[i] != poison(i)) fail(j, l, "a word changed that must stay", i);
+    check_kept(j, l, w, l->good || !j->keeps ? w->table_words : 0);
 }
 static void check_written(const Job *j, const Load *l, const Work *w, uint64_t got) {
     if (got != w->out_len) fail(j, l, "wrong length", got);
@@ -55,18 +59,69 @@ static void check_written(const Job *j, const Load *l, const Work *w, uint64_t g
     for (size_t i = 0; j->keeps && i < SLACK; i++)
         if (w->out[w->out_len + i] != 0xA5) fail(j, l, "a byte changed that must stay", i);
 }
+static void check_sounding(const Job *j, const Load *l, const Work *w) {
+    const Sounding want = {0, l->station, l->launch, l->levels};
+    if (memcmp(&w->sounding, &want, sizeof want)) fail(j, l, "wrong head or refusal", w->sounding.refusal);
+    if (memcmp(w->table, l->words, 8 * w->table_words)) fail(j, l, "wrong levels", 0);
+    check_kept(j, l, w, w->table_words);
+}
+static void check_found(const Job *j, const Load *l, const Work *w) {
+    uint64_t tag = j->kind == PICK ? LAUNCH_TAG : LEVEL_TAG, number = j->kind == PICK ? 0 : l->number;
+    Found want = {0};
+    for (const uint64_t *row = l->records, *stop = row + RECORD * l->fields; row < stop; row += RECORD)
+        if (row[0] == tag && want.count++ == number)
+            want.found = 1, want.type = row[1], want.value = row[2], want.len = row[3];
+    if (memcmp(&w->found, &want, sizeof want)) fail(j, l, "wrong field, count or refusal", w->found.refusal);
+}
+static int on_sounding(const Job *j) { return j->kind == SOUNDING || j->kind == PICK || j->kind == PICK_AT; }
 static void check(size_t a, size_t b) {
     const Job *j = &jobs[a];
     const Load *l = &loads[b];
     if (j->kind != READ && (!l->good || l->deep)) return;
+    if (on_sounding(j) && !l->sounding) return;
     prepare(j, l, &works[a][b]);
     uint64_t got = j->run(l, &works[a][b]);
     if (got == NOT_DONE) return;
     active[a][b] = 1;
-    if (j->kind == PICK && got != l->launch) fail(j, l, "wrong launch", got);
-    if (j->kind == PICK) return;
     if (j->kind == READ) check_read(j, l, &works[a][b], got);
+    else if (j->kind == SOUNDING) check_sounding(j, l, &works[a][b]);
+    else if (on_sounding(j)) check_found(j, l, &works[a][b]);
     else if (j->kind != FLOOR) check_written(j, l, &works[a][b], got);
+}
+static void release(Work *w) { free(w->table), free(w->inner), free(w->out); }
+/* Peers that keep the paper's promises, on a broken sounding: one refusal or one answer, and the words behind it stay. */
+static void check_broken(uint64_t seed, uint64_t *met) {
+    const Load l = broken_sounding(seed);
+    Work first[FLOOR] = {{0}};
+    for (const Job *j = jobs; j < jobs + job_count; j++) {
+        if (!on_sounding(j) || !j->keeps) continue;
+        Work w = {0}, *other = &first[j->kind];
+        prepare(j, &l, &w);
+        if (w.table_words) w.table_words -= seed % LEVEL;
+        j->run(&l, &w);
+        check_kept(j, &l, &w, LEVEL * w.sounding.levels);
+        if (!other->table) {
+            *other = w;
+            if (j->kind == SOUNDING) met[w.sounding.refusal % 16]++;
+            continue;
+        }
+        if (memcmp(&w.sounding, &other->sounding, sizeof w.sounding) || memcmp(&w.found, &other->found, sizeof w.found))
+            fail(j, &l, "not the other peers' answer; seed", seed);
+        if (memcmp(w.table, other->table, 8 * w.table_words)) fail(j, &l, "not the other peers' levels; seed", seed);
+        release(&w);
+    }
+    for (int k = 0; k < FLOOR; k++) release(&first[k]);
+}
+static void check_all_broken(void) {
+    static const int REFUSALS[] = {0, 1, 2, 3, 4, 5, 9, 10, 11, 13};
+    uint64_t met[16] = {0};
+    for (uint64_t seed = 0; seed < BROKEN; seed++) check_broken(seed, met);
+    fprintf(stderr, "bench: %d broken soundings are answered alike; by refusal (0: accepted)", BROKEN);
+    for (size_t i = 0; i < sizeof REFUSALS / sizeof *REFUSALS; i++) {
+        fprintf(stderr, " %d: %llu", REFUSALS[i], (unsigned long long)met[REFUSALS[i]]);
+        if (!met[REFUSALS[i]]) fprintf(stderr, ": none is refused so\n"), exit(1);
+    }
+    fputc('\n', stderr);
 }
 
 /* ---- Counts and times ---- */
@@ -134,6 +189,7 @@ int main(int argc, char **argv) {
         for (size_t a = 0; !strcmp(what, "count") && a < job_count; a++)
             if (active[a][b]) count(a, b);
     }
+    if (!strcmp(what, "check")) check_all_broken();
     if (!strcmp(what, "check")) fprintf(stderr, "bench: %zu jobs agree on %zu loads\n", job_count, load_count);
     return 0;
 }

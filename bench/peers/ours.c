@@ -19,17 +19,38 @@ static uint64_t job_prepend(const Load *l, Work *w) {
     return written(w, capgauze_prepend_message(RECORDS, w->out, w->out_len));
 }
 static uint64_t job_measure(const Load *l, Work *w) { return written(w, capgauze_encoded_len_message(RECORDS)); }
+/* A table of no words: pass one, and NoRoom with the count. */
+static uint64_t job_pass_one(const Load *l, Work *w) {
+    if (l->deep) return NOT_DONE;
+    capgauze_read r = capgauze_read_message(l->bytes, l->len, 0, l->len, w->table, 0);
+    return r.number == CAPGAUZE_NO_ROOM ? r.count : REFUSED;
+}
+static uint64_t job_sounding(const Load *l, Work *w) {
+    capgauze_sounding r = capgauze_read_sounding(l->bytes, l->len, w->table, w->table_words);
+    w->sounding = (Sounding){r.number, r.station, r.launch, r.levels};
+    return r.number;
+}
 static uint64_t job_pick(const Load *l, Work *w) {
-    (void)w;
-    return l->launch ? capgauze_pick(l->bytes, l->len, 2).value : NOT_DONE;
+    capgauze_picked r = capgauze_pick(l->bytes, l->len, LAUNCH_TAG);
+    w->found = (Found){r.number, r.found, r.found, r.type, r.value, r.length};
+    return r.number;
 }
 static uint64_t job_pick_early(const Load *l, Work *w) {
-    (void)w;
-    return l->launch ? capgauze_pick_early(l->bytes, l->len, 2).value : NOT_DONE;
+    capgauze_early r = capgauze_pick_early(l->bytes, l->len, LAUNCH_TAG);
+    w->found = (Found){r.number, r.found, r.found, r.type, r.value, r.length};
+    return r.number;
+}
+static uint64_t job_pick_at(const Load *l, Work *w) {
+    capgauze_several r = capgauze_pick_at(l->bytes, l->len, LEVEL_TAG, l->number);
+    w->found = (Found){r.number, r.count, r.found, r.type, r.value, r.length};
+    return r.number;
 }
 REGISTER(1, .kind = READ, .name = "OURS", .fills = 1, .keeps = 1, .run = job_read)
 REGISTER(2, .kind = WRITE, .name = "OURS", .keeps = 1, .run = job_write)
 REGISTER(3, .kind = PREPEND, .name = "OURS", .keeps = 1, .run = job_prepend)
 REGISTER(4, .kind = MEASURE, .name = "OURS", .run = job_measure)
-REGISTER(5, .kind = PICK, .name = "OURS", .run = job_pick)
-REGISTER(6, .kind = PICK, .name = "OURS-early", .run = job_pick_early)
+REGISTER(5, .kind = READ, .name = "OURS-pass-one", .run = job_pass_one)
+REGISTER(6, .kind = SOUNDING, .name = "OURS", .keeps = 1, .run = job_sounding)
+REGISTER(7, .kind = PICK, .name = "OURS", .keeps = 1, .run = job_pick)
+REGISTER(8, .kind = PICK, .name = "OURS-early", .run = job_pick_early)
+REGISTER(9, .kind = PICK_AT, .name = "OURS", .keeps = 1, .run = job_pick_at)

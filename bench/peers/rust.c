@@ -26,6 +26,12 @@ uint64_t rust_table_prepend(const Lent *, void *reverse, const uint8_t **wrote);
 uint64_t rust_same_prepend(const Lent *, void *reverse, const uint8_t **wrote);
 uint64_t rust_table_len(const Lent *);
 uint64_t rust_same_len(const Lent *);
+void rust_same_pick(const uint8_t *, size_t, uint32_t tag, Found *);
+void rust_borrowed_pick(const uint8_t *, size_t, uint32_t tag, Found *);
+void rust_same_pick_at(const uint8_t *, size_t, uint32_t tag, uint64_t number, Found *);
+void rust_borrowed_pick_at(const uint8_t *, size_t, uint32_t tag, uint64_t number, Found *);
+void rust_same_sounding(const uint8_t *, size_t, uint64_t *, size_t, Sounding *);
+void rust_borrowed_sounding(const uint8_t *, size_t, uint64_t *, size_t, Sounding *);
 
 /* A job, named by its own function. */
 #define JOB(id) static uint64_t id(const Load *l, Work *w)
@@ -68,6 +74,20 @@ JOB(same_len) { Lent from = lent(l, w); return rust_same_len(&from); }
 REGISTER(13, .kind = MEASURE, .name = "rust-opaque", .prepare = held, .run = opaque_len)
 REGISTER(14, .kind = MEASURE, .name = "rust-table", .run = table_len)
 REGISTER(15, .kind = MEASURE, .name = "rust-same", .run = same_len)
+
+#define TABLE l->bytes, l->len, w->table, w->table_words
+JOB(same_sounding) { rust_same_sounding(TABLE, &w->sounding); return 0; }
+JOB(borrowed_sounding) { rust_borrowed_sounding(TABLE, &w->sounding); return 0; }
+JOB(same_pick) { rust_same_pick(l->bytes, l->len, LAUNCH_TAG, &w->found); return 0; }
+JOB(borrowed_pick) { rust_borrowed_pick(l->bytes, l->len, LAUNCH_TAG, &w->found); return 0; }
+JOB(same_pick_at) { rust_same_pick_at(l->bytes, l->len, LEVEL_TAG, l->number, &w->found); return 0; }
+JOB(borrowed_pick_at) { rust_borrowed_pick_at(l->bytes, l->len, LEVEL_TAG, l->number, &w->found); return 0; }
+REGISTER(18, .kind = SOUNDING, .name = "rust-same", .keeps = 1, .run = same_sounding)
+REGISTER(19, .kind = SOUNDING, .name = "rust-borrowed", .run = borrowed_sounding)
+REGISTER(20, .kind = PICK, .name = "rust-same", .keeps = 1, .run = same_pick)
+REGISTER(21, .kind = PICK, .name = "rust-borrowed", .keeps = 1, .run = borrowed_pick)
+REGISTER(22, .kind = PICK_AT, .name = "rust-same", .keeps = 1, .run = same_pick_at)
+REGISTER(23, .kind = PICK_AT, .name = "rust-borrowed", .keeps = 1, .run = borrowed_pick_at)
 
 /* Floors: a copy of the bytes; the stores of a table reader alone. */
 JOB(copy) { memcpy(w->out, l->bytes, l->len); return l->len; }
