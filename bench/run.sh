@@ -7,7 +7,8 @@
 #
 # Needs cargo, gcc, g++, clang (where there is one), python3, valgrind and the Debian packages librust-bytes-dev,
 # libprotobuf-dev, protobuf-compiler. Works offline. All that is made lies in target/. Where x86-64 code runs under an
-# emulator there are no times, and the emulator counts the instructions.
+# emulator there are no times, and the emulator counts the instructions. With RUN= and an object for the machine's own
+# processor as CAPGAUZE_ARCHIVE all is built for that one, and timed.
 set -eu
 here=$(cd "$(dirname "$0")" && pwd)
 root=$here/..

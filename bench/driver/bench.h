@@ -28,10 +28,10 @@ typedef struct Load {
     size_t fields;     /* of the message */
     size_t all_fields; /* with those of its payloads, where deep */
     const uint64_t *records;
-    int sounding;            /* 1: what follows is said, and the jobs on soundings are run */
+    int sounding; /* 1: what follows is said, and the jobs on soundings are run */
     uint64_t station, launch;
-    size_t levels, number;   /* number: of the level that pick_at looks up */
-    const uint64_t *words;   /* of its levels */
+    size_t levels, number; /* number: of the level that pick_at looks up */
+    const uint64_t *words; /* of its levels */
 } Load;
 
 /* What the jobs on a sounding answer; refused: the number alone. */
@@ -62,8 +62,8 @@ typedef struct Job {
     Kind kind;
     const char *name; /* the peer */
     int fills;        /* a reader whose records stand in work->table, where they are compared */
-    int keeps;        /* nothing is touched that the paper says stays: a refused read's table, what is behind a buffer; and a
-                         sounding or a lookup is refused by the paper's number */
+    int keeps;        /* nothing is touched that the paper says stays: a refused read's table, what is behind a buffer;
+                         and a sounding or a lookup is refused by the paper's number */
     int pb;           /* works on the protobuf bytes */
     void *(*prepare)(const Load *, Work *);
     /* A reader: the number of fields, or REFUSED. A writer or a measurer: the length. Others: anything. */

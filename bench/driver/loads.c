@@ -224,7 +224,8 @@ static void damage(Bytes *b) {
     case 3: memset(b->p + at, 0xFF, b->n - at < 9 ? b->n - at : 9);
     }
 }
-/* A sounding of a few levels, some of it wrong, with room for `levels` of them; the first is longer than a message may be. */
+/* A sounding of a few levels, most often something wrong in it, and room for `levels`. The first is longer than a message
+ * may be. */
 Load broken_sounding(uint64_t seed) {
     state = seed;
     Msg m = {0};
