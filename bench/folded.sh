@@ -5,7 +5,7 @@
 set -eu
 FOLDED='
 field::decode_field field::step_from field::next_field field::walk_field field::pass_field
-value::value_of_kind value::value_by_kind value::value_of_type value::value_in_pass
+field_value::value_of_kind field_value::value_by_kind field_value::value_of_type field_value::value_in_pass
 message::decide
 sounding::next_level sounding::level_of
 '

@@ -19,4 +19,4 @@ build() {
 build oracle release
 build oracle-looped release --no-default-features
 build oracle-checked checked --features checked
-echo "built target/bin/oracle, oracle-looped, oracle-checked; each answers edges.txt as the paper says"
+echo "built target/bin/oracle, oracle-looped, oracle-checked; each answers edges.txt as it says"

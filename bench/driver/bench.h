@@ -62,8 +62,8 @@ typedef struct Job {
     Kind kind;
     const char *name; /* the peer */
     int fills;        /* a reader whose records stand in work->table, where they are compared */
-    int keeps;        /* nothing is touched that the paper says stays: a refused read's table, what is behind a buffer;
-                         and a sounding or a lookup is refused by the paper's number */
+    int keeps;        /* nothing is touched that the rules say stays: a refused read's table, what is behind a buffer;
+                         and a sounding or a lookup is refused by its number */
     int pb;           /* works on the protobuf bytes */
     void *(*prepare)(const Load *, Work *);
     /* A reader: the number of fields, or REFUSED. A writer or a measurer: the length. Others: anything. */

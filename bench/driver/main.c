@@ -89,7 +89,7 @@ static void check(size_t a, size_t b) {
     else if (j->kind != FLOOR) check_written(j, l, &works[a][b], got);
 }
 static void release(Work *w) { free(w->table), free(w->inner), free(w->out); }
-/* Peers that keep the paper's promises, on a broken sounding: one refusal or one answer; the words behind it stay. */
+/* Peers that keep the rules, on a broken sounding: one refusal or one answer; the words behind it stay. */
 static void check_broken(uint64_t seed, uint64_t *met) {
     const Load l = broken_sounding(seed);
     Work first[FLOOR] = {{0}};

@@ -1,4 +1,4 @@
-/* Calls every entry through the header, most with the paper's own cases. Whatever is lent ends at the edge of a page
+/* Calls every entry through the header, most with the cases of docs/FORMAT.md. Whatever is lent ends at the edge of a page
  * that may not be touched. run.sh compiles it and runs it. */
 #include "capgauze.h"
 #include <stdio.h>

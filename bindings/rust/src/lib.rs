@@ -51,7 +51,7 @@ fn accepted(number: u64) -> Result<(), Refusal> {
     ];
     match number {
         0 => Ok(()),
-        _ => Err(*ALL.iter().find(|refusal| refusal.number() == number).expect("a number of the paper")),
+        _ => Err(*ALL.iter().find(|refusal| refusal.number() == number).expect("a number of a refusal")),
     }
 }
 

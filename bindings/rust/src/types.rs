@@ -176,7 +176,7 @@ pub enum Refusal {
 }
 
 impl Refusal {
-    /// Its number in the paper.
+    /// Its number (docs/FORMAT.md, rule R1).
     pub fn number(self) -> u64 {
         self as u64
     }

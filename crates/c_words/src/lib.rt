@@ -1,5 +1,4 @@
-// The words that C is handed for each answer: plain structs whose first word is the refusal's number, and what an answer is worth in them. `told` says
-// what the words are.
+// The words that C is handed for each answer: plain structs whose first word is the number of rule R1. `told` says what the others are.
 ghost use mathlib.Core.Path.{_≡_};
 ghost use Rattle.wire.specs.Table.{kindWord, valueWord, lengthWord};
 ghost use Rattle.entry_answer.specs.Told.{putTold, varintTold, readTold, pickedTold, severalTold, earlyTold, measuredTold, keyTold, valueTold, skippedTold, stepTold, writtenTold, insertedTold};

@@ -1,4 +1,5 @@
--- The paper's cases, over every outcome that the contracts of the entries allow: varints put, measured and read, messages read, fields skipped.
+-- The cases of FORMAT.md that are marked P, over every outcome that the contracts of the entries allow: varints put, measured and read, messages
+-- read, fields skipped.
 use Prim.Native.Nat.{ℕ, _-_, _≤_}
 use mathlib.Core.Path.{_≡_, refl, ap, _∙_}
 use mathlib.Core.Bool.{Bool, true, false}
@@ -21,7 +22,7 @@ use Rattle.wire.specs.declared.VarintFound.the-variants as varintFound
 use Rattle.wire.specs.declared.Reached.{Reached}
 use Rattle.wire.specs.Table.{room}
 use Rattle.wire.specs.Cases.{Case, Encodes, Varint, Reads, Skips, Right, All, cases}
-use Rattle.wire.specs.Cases as paper
+use Rattle.wire.specs.Cases as format
 use Rattle.message_table.specs.Into.{Outcome, readInto, into-refused, into-fits}
 use Rattle.entry_answer.specs.Gate.{gated, through-open, gated-open}
 use Rattle.entry_varint.specs.Varints.{varintRead, decodeVarint}
@@ -162,5 +163,5 @@ tell [] a b = tt
 tell (c ∷ cs) a b = let x = both (inside c) (every cs) b in (tells c (a .0) (x .0), tell cs (a .1) (x .1))
 
 -- THE TABLE
-pub told-cases : All Tells paper.table
-told-cases = tell paper.table cases refl
+pub told-cases : All Tells format.table
+told-cases = tell format.table cases refl

@@ -1,6 +1,6 @@
--- THE LOOKUP THAT STOPS EARLY. Where the full pick does not refuse, it answers the same. Elsewhere, if it answers, the bytes before the key that it
--- stopped at are an accepted message, and pick on them answers the same. It has read a key for every field up to the wanted tag, and one more where
--- it stopped at a higher key; where it is refused, it tells of none.
+-- THE LOOKUP THAT STOPS EARLY (rules P7 and P8). Where the full pick does not refuse, it answers the same. Elsewhere, if it answers, the bytes
+-- before the key that it stopped at are an accepted message, and pick on them answers the same. It has read a key for every field up to the wanted
+-- tag, and one more where it stopped at a higher key; where it is refused, it tells of none.
 use Prim.Native.Nat.{ℕ, _+_, _≤_}
 use mathlib.Core.Path.{_≡_, refl, ap, _∙_, sym}
 use mathlib.Core.Bool.{true}

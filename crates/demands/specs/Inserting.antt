@@ -1,5 +1,5 @@
--- Insertion as a list of fields: the new field stands behind all of an equal or lower tag and before all of a higher one, the others are as they were, and a table
--- that passed every test passes every test again. Over the definition that the contract of `insert` cites.
+-- Insertion as a list of fields (rules I1 and I2): the new field stands behind all of an equal or lower tag and before all of a higher one, the others
+-- are as they were, and a table that passed every test passes every test again. Over the definition that the contract of `insert` cites.
 use Prim.Native.Nat.{ℕ, zero, suc, _+_, _-_, _*_, _≤_, _<_}
 use mathlib.Core.Path.{_≡_, refl, ap, _∙_, sym}
 use mathlib.Core.Bool.{Bool, true, false}

@@ -1,4 +1,4 @@
--- The third demand, for reading: a message is accepted exactly if some good list of items is written as it, and the table then holds the
+-- The third demand, for reading (rule M7): a message is accepted exactly if some good list of items is written as it, and the table then holds the
 -- only such list. Over every outcome that the contract of `read_message` allows.
 use Prim.Native.Nat.{ℕ, suc, _+_, _-_, _*_, _≤_}
 use mathlib.Core.Path.{_≡_, refl, ap, _∙_, sym, subst}

@@ -1,4 +1,5 @@
--- A refusal of `read_message` changes nothing, and an accepted read nothing behind its records. Over every outcome that its contract allows.
+-- A refusal of `read_message` changes nothing (rule R2), and an accepted read nothing behind its records (rule T4). Over every outcome that its
+-- contract allows.
 use Prim.Native.Nat.{ℕ, _*_, _≤_}
 use mathlib.Core.Path.{_≡_, refl, sym, subst}
 use mathlib.Core.Bool.{Bool, true, false}

@@ -1,4 +1,5 @@
--- Which refusals each entry has, in their order: order R of the readers, order T of the writers, of measuring and of insertion. A number stands beside each refusal.
+-- Which refusals each entry has, in their order: order R of the readers (rule R3), order T of the writers, of measuring and of insertion (rule R6).
+-- A number stands beside each refusal (rule R1).
 use Prim.Native.Nat.{ℕ, zero, suc, _+_, _-_, _/_, _^_}
 use mathlib.Core.Bool.{Bool, true, false, not}
 use mathlib.Core.List.{List, [], _∷_, _++_}
@@ -31,12 +32,12 @@ use Rattle.message_early.specs.Early as early
 use Rattle.entry_key.specs.Keys.{keyBytes}
 use Rattle.demands.specs.Order.{Rule, when}
 
--- ---- ORDER R, of the readers: 4 for a slice above the limit; 8 for a place or an end above the slice's length; then 1, 2, 3 as met, and 5
+-- ---- ORDER R, of the readers (rule R3): 4 for a slice above the limit; 8 for a place or an end above the slice's length; then 1, 2, 3 as met, and 5
 
 abbrev pub orderR : List ℕ → ℕ → ℕ → List Rule → List Rule
 orderR s at e met = when (ltb messageLimit (length s)) TooLong ∷ when (ltb (length s) at) BadCap ∷ when (ltb (length s) e) BadCap ∷ met
 
--- a varint at a place: 1 if the slice runs out before it ends, 2 if its sum is 2^64 or more
+-- Rules V3 and V4: a varint at a place: 1 if the slice runs out before it ends, 2 if its sum is 2^64 or more
 abbrev pub runsOut : Sum → Bool
 runsOut (Adds v n) = false
 runsOut Stops = true
@@ -51,12 +52,12 @@ sumAt s p = sum 8 (drop p s)
 abbrev pub varintRules : List ℕ → ℕ → List Rule
 varintRules s p = when (runsOut (sumAt s p)) Truncated ∷ when (tooLarge (sumAt s p)) InvalidVarint ∷ []
 
--- under an end: 1 also for a sum that is too large, if nine bytes pass the end
+-- Rule C3: under an end: 1 also for a sum that is too large, if nine bytes pass the end
 abbrev pub cappedRules : List ℕ → ℕ → ℕ → List Rule
 cappedRules s e p =
     when (runsOut (sumAt s p)) Truncated ∷ when (choose (ltb e (p + 9)) (tooLarge (sumAt s p)) false) Truncated ∷ when (tooLarge (sumAt s p)) InvalidVarint ∷ []
 
--- a key: its varint under the end, then 3 if the last tag and the difference are 2^32 or more
+-- Rule K3: a key: its varint under the end, then 3 if the last tag and the difference are 2^32 or more
 abbrev pub overflows : ℕ → VarintFound → Bool
 overflows last (varintFound.Got k q) = leb (2 ^ 32) (last + k / 4)
 overflows last (varintFound.Refused r) = false
@@ -64,11 +65,11 @@ overflows last (varintFound.Refused r) = false
 abbrev pub keyRules : List ℕ → ℕ → ℕ → ℕ → List Rule
 keyRules s e p last = cappedRules s e p ++ (when (overflows last (cappedAt s e p)) TagOverflowed ∷ [])
 
--- bytes up to a place: 1 if the slice has not so many, 1 if they pass the end
+-- Rules C5 and C6: bytes up to a place: 1 if the slice has not so many, 1 if they pass the end
 abbrev pub bytesRules : List ℕ → ℕ → ℕ → List Rule
 bytesRules s e q = when (ltb (length s) q) Truncated ∷ when (ltb e q) Truncated ∷ []
 
--- a value: a number's varint is under the end; a payload's length is not, but its bytes are
+-- Rules C2, C4, C5 and C6: a value: a number's varint is under the end; a payload's length is not, but its bytes are
 abbrev pub payloadRules : List ℕ → ℕ → VarintFound → List Rule
 payloadRules s e (varintFound.Got n q) = bytesRules s e (q + n)
 payloadRules s e (varintFound.Refused r) = []
@@ -79,7 +80,7 @@ valueRules s e p LengthDelimited = varintRules s p ++ payloadRules s e (varintAt
 valueRules s e p ThirtyTwoBit = bytesRules s e (p + 4)
 valueRules s e p SixtyFourBit = bytesRules s e (p + 8)
 
--- a field: its key, then the value behind it
+-- Rule M2: a field: its key, then the value behind it
 abbrev pub behindKey : List ℕ → ℕ → KeyFound → List Rule
 behindKey s e (keyFound.Got k q) = valueRules s e q (k .wire)
 behindKey s e (keyFound.Refused r) = []
@@ -87,14 +88,14 @@ behindKey s e (keyFound.Refused r) = []
 abbrev pub fieldRules : List ℕ → ℕ → ℕ → ℕ → List Rule
 fieldRules s e p last = keyRules s e p last ++ behindKey s e (keyAt s e p last)
 
--- not before the end: 1 if not at it
+-- Rule M1: not before the end: 1 if not at it
 abbrev pub endRules : ℕ → ℕ → List Rule
 endRules e p = when (not (eqb p e)) Truncated ∷ []
 
 abbrev pub stepRules : List ℕ → ℕ → ℕ → ℕ → List Rule
 stepRules s e p last = choose (ltb p e) (fieldRules s e p last) (endRules e p)
 
--- a message: its fields, one behind the other
+-- Rule M4: a message: its fields, one behind the other
 abbrev pub behindField : FieldFound → (Field → ℕ → List Rule) → List Rule
 behindField (fieldFound.Got f q) go = go f q
 behindField (fieldFound.Refused r) go = []
@@ -107,7 +108,7 @@ fieldsRules (suc k) s e p last =
 abbrev pub messageRules : List ℕ → ℕ → ℕ → List Rule
 messageRules s a e = fieldsRules (e - a) s e a 0
 
--- skipping: one value, a length under the end too, its bytes held against the slice alone; then those of the same tag behind it
+-- Rules S1 to S5: skipping: one value, a length under the end too, its bytes held against the slice alone; then those of the same tag behind it
 abbrev pub skippedPayload : List ℕ → VarintFound → List Rule
 skippedPayload s (varintFound.Got n q) = when (ltb (length s) (q + n)) Truncated ∷ []
 skippedPayload s (varintFound.Refused r) = []
@@ -138,7 +139,8 @@ fieldsRead (suc k) s e p last = choose (ltb p e) (oneMore (fieldAt s e p last) (
 abbrev pub fieldsIn : List ℕ → ℕ → ℕ → List Field
 fieldsIn s a e = fieldsRead (e - a) s e a 0
 
--- a search for a tag from the front: the fields before the first key above the tag, the value behind which is not read; and the fields that it reads
+-- Rule P6: a search for a tag from the front: the fields before the first key above the tag, the value behind which is not read; and the fields
+-- that it reads
 abbrev pub earlyRules : ℕ → ℕ → List ℕ → ℕ → ℕ → List Rule
 earlyRules zero tag s p last = []
 earlyRules (suc k) tag s p last =
@@ -154,12 +156,12 @@ earlyRead (suc k) tag s p last =
     (choose (early.above tag (keyAt s (length s) p last)) [] (oneMore (fieldAt s (length s) p last) (λ f q. earlyRead k tag s q (f .tag))))
     []
 
--- ---- bytes put into a buffer: 5 if they are more than it has
+-- ---- bytes put into a buffer: 5 if they are more than it has (rule R8)
 
 abbrev pub roomRules : List ℕ → List ℕ → List Rule
 roomRules b xs = when (ltb (length b) (length xs)) NoRoom ∷ []
 
--- ---- ORDER T, of the writers: 4 for a source above the limit; 6 for a count above the room; for each record 6 if it is not good, then 7 if its tag
+-- ---- ORDER T, of the writers (rule R6): 4 for a source above the limit; 6 for a count above the room; for each record 6 if it is not good, then 7 if its tag
 -- falls; and what each has behind these
 
 abbrev pub recordRules : ℕ → List ℕ → ℕ → List Rule
@@ -172,7 +174,7 @@ recordsRules (suc i) n t = recordsRules i n t ++ recordRules n t i
 abbrev pub orderT : List ℕ → List ℕ → ℕ → List Rule → List Rule
 orderT s t c rest = when (ltb messageLimit (length s)) TooLong ∷ when (ltb (room t) c) BadRecord ∷ (recordsRules c (length s) t ++ rest)
 
--- 4 for a message above the limit
+-- Rule R6: 4 for a message above the limit
 abbrev pub outputRule : List ℕ → List ℕ → ℕ → Rule
 outputRule s t c = when (ltb messageLimit (length (records.message s t c))) TooLong
 
@@ -196,11 +198,11 @@ skipFieldOrder s at e w = orderR s at e (skipRules (length s - at) s e at w)
 abbrev pub stepAtOrder : List ℕ → ℕ → ℕ → ℕ → List Rule
 stepAtOrder s at e last = orderR s at e (stepRules s e at last)
 
--- 1 for a place past the end
+-- Rule M9: 1 for a place past the end
 abbrev pub moreAtOrder : List ℕ → ℕ → ℕ → List Rule
 moreAtOrder s at e = orderR s at e (when (ltb e at) Truncated ∷ [])
 
--- 5, behind all of the message's own, if its fields are more than the table has room for
+-- Rule T5: 5, behind all of the message's own, if its fields are more than the table has room for
 abbrev pub tableRules : List ℕ → ℕ → ℕ → List ℕ → List Rule
 tableRules s a e t = when (ltb (room t) (length (fieldsIn s a e))) NoRoom ∷ []
 
@@ -210,7 +212,8 @@ readMessageOrder s a e t = orderR s a e (messageRules s a e ++ tableRules s a e 
 abbrev pub readPayloadOrder : List ℕ → Record → List ℕ → List Rule
 readPayloadOrder m r t = let p = payload m r in readMessageOrder p 0 (length p) t
 
--- the whole message's, and behind these 11 if the tag stands more than once; at a number, the message's alone; from the front, as far as it is read
+-- Rules P4, P5 and P7: the whole message's, and behind these 11 if the tag stands more than once; at a number, the message's alone; from the front,
+-- as far as it is read
 abbrev pub repeatedRules : ℕ → List Field → List Rule
 repeatedRules tag fs = when (ltb 1 (length (ofTag tag fs))) Repeated ∷ []
 
@@ -223,7 +226,7 @@ pickAtOrder s = orderR s 0 (length s) (messageRules s 0 (length s))
 abbrev pub pickEarlyOrder : List ℕ → ℕ → List Rule
 pickEarlyOrder s tag = orderR s 0 (length s) (earlyRules (length s) tag s 0 0 ++ repeatedRules tag (earlyRead (length s) tag s 0 0))
 
--- a varint put at either end of a buffer; a key: 7 for a tag below the last one, first; a key measured: that alone
+-- Rule R8: a varint put at either end of a buffer; a key: 7 for a tag below the last one, first; a key measured: that alone
 abbrev pub putVarintOrder : ℕ → List ℕ → List Rule
 putVarintOrder v b = roomRules b (encode v)
 
@@ -233,14 +236,14 @@ putKeyOrder last tag w b = when (ltb tag last) OutOfOrder ∷ roomRules b (keyBy
 abbrev pub keyLenOrder : ℕ → ℕ → List Rule
 keyLenOrder last tag = when (ltb tag last) OutOfOrder ∷ []
 
--- a message measured; written at either end of a buffer, 5 last
+-- Rule R6: a message measured; written at either end of a buffer, 5 last
 abbrev pub measureOrder : List ℕ → List ℕ → ℕ → List Rule
 measureOrder s t c = orderT s t c (outputRule s t c ∷ [])
 
 abbrev pub writeOrder : List ℕ → List ℕ → ℕ → List ℕ → List Rule
 writeOrder s t c b = orderT s t c (outputRule s t c ∷ roomRules b (records.message s t c))
 
--- insertion: 6 for a new record that is not good, then 5 if the records fill the room
+-- Rule R6: insertion: 6 for a new record that is not good, then 5 if the records fill the room
 abbrev pub newRules : List ℕ → List ℕ → ℕ → Record → List Rule
 newRules s t c r = when (not (good (length s) r)) BadRecord ∷ when (eqb c (room t)) NoRoom ∷ []
 

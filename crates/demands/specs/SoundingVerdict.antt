@@ -1,4 +1,5 @@
--- THE NUMBER THAT READING A SOUNDING TELLS is that of the first refusal in its order whose condition holds, and 0 exactly if none does: of every outcome that the contract allows.
+-- THE NUMBER THAT READING A SOUNDING TELLS is that of the first refusal in its order (rule L7) whose condition holds, and 0 exactly if none does: of
+-- every outcome that the contract allows.
 use Prim.Native.Nat.{ℕ, _-_}
 use mathlib.Core.Path.{_≡_, refl, ap, _∙_, sym}
 use mathlib.Core.Bool.{Bool, true, false, not}

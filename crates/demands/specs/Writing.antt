@@ -135,7 +135,7 @@ module _ (c : Call) (w : Whole c) (z : readTold (answer c) .number ≡ 0) {b : L
   pub from-the-end : (e : Prepended (message c) (left c) (readTold (answer c) .count) b) → prepends e ≡ atEnd (message c) b
   from-the-end = prepended-as (planned c w z) fits
 
--- ---- THE FIRST DEMAND, FOR WRITING: whatever the arguments, a refusal leaves the buffer as it was
+-- ---- THE FIRST DEMAND, FOR WRITING (rule R2): whatever the arguments, a refusal leaves the buffer as it was
 
 module _ (b : List ℕ) (done : List ℕ → Writing) (sure : (bs : List ℕ) → writtenTold (done bs .answer) .number ≡ 0) where
   into-frame : (p : Plan) → (writtenTold (into b p done .answer) .number ≡ 0 → ⊥) → into b p done .buf ≡ b

@@ -1,4 +1,4 @@
--- What every reader tests before it reads: order 4, then 8.
+-- What every reader tests before it reads (rule R3): 4, then 8.
 use Prim.Native.Nat.{ℕ, _≤_, _<_}
 use mathlib.Core.Path.{_≡_, refl, ap}
 use mathlib.Core.Bool.{Bool, true, false}
@@ -12,7 +12,7 @@ use Rattle.wire.specs.declared.Refusal.the-variants.{TooLong, BadCap}
 use Rattle.entry_answer.specs.declared.Gated.{Gated}
 use Rattle.entry_answer.specs.declared.Gated.the-variants.{Open, Shut}
 
--- of n bytes, a place and an end: a slice above the limit is TooLong; a place or an end above the slice's length is BadCap
+-- Rules R3 and C1: of n bytes, a place and an end: a slice above the limit is TooLong; a place or an end above the slice's length is BadCap
 unfoldable pub gated : ℕ → ℕ → ℕ → Gated
 gated n at e = choose (leb n messageLimit) (choose (leb at n) (choose (leb e n) Open (Shut BadCap)) (Shut BadCap)) (Shut TooLong)
 

@@ -1,4 +1,4 @@
--- Bytes put at a buffer's front or at its end: what is answered, and what the buffer holds.
+-- Bytes put at a buffer's front or at its end (rule E5): what is answered, and what the buffer holds.
 use Prim.Native.Nat.{ℕ, _+_, _-_, _≤_, _<_}
 use mathlib.Core.Path.{_≡_, refl, ap, _∙_}
 use mathlib.Core.Bool.{Bool, true, false}
@@ -17,15 +17,15 @@ pub record Stored : Type 0 where
   pub answer : Put
   pub buf : List ℕ
 
--- what is put and left, where there is room; else NoRoom, and the buffer as it was
+-- Rules E5 and R8: what is put and left, where there is room; else NoRoom, and the buffer as it was
 abbrev pub roomFor : List ℕ → List ℕ → List ℕ → Stored
 roomFor b xs c = choose (leb (length xs) (length b)) (record { answer = Done (length xs); buf = c }) (record { answer = Refused NoRoom; buf = b })
 
--- the bytes first, every other byte as it was
+-- Rule E5: the bytes first, every other byte as it was
 unfoldable pub atFront : List ℕ → List ℕ → Stored
 atFront b xs = roomFor b xs (xs ++ drop (length xs) b)
 
--- the bytes last, every other byte as it was
+-- Rule E5: the bytes last, every other byte as it was
 unfoldable pub atEnd : List ℕ → List ℕ → Stored
 atEnd b xs = roomFor b xs (take (length b - length xs) b ++ xs)
 

@@ -1,4 +1,4 @@
--- The paper's number and values for each case of each answer.
+-- The number (rule R1) and the values of each case of each answer; what a refusal carries (rules R4, R5, R7 and R8).
 use Prim.Native.Nat.{ℕ}
 use Rattle.wire.specs.Numbers.{numberOf, typeOf}
 use Rattle.wire.specs.Table.{kindWord, valueWord, lengthWord}
@@ -29,7 +29,7 @@ use Rattle.entry_answer.specs.declared.Picked.the-variants as picked
 use Rattle.entry_answer.specs.declared.Several as several
 use Rattle.entry_answer.specs.declared.Several.the-variants as severalAs
 
--- a length or a count
+-- Rule R8: a length or a count
 pub record Number : Type 0 where
   pub number : ℕ
   pub value : ℕ
@@ -51,7 +51,7 @@ abbrev pub measuredTold : Measured → Number
 measuredTold (measured.Length n) = record { number = 0; value = n }
 measuredTold (measured.Refused r) = record { number = numberOf r; value = 0 }
 
--- a key: refused, the last tag given
+-- Rule R5: a key: refused, the last tag given
 pub record Key : Type 0 where
   pub number : ℕ
   pub tag : ℕ
@@ -62,7 +62,7 @@ abbrev pub keyTold : KeyRead → Key
 keyTold (keyRead.Got k q) = record { number = 0; tag = k .tag; type = typeOf (k .wire); place = q }
 keyTold (keyRead.Refused r p last) = record { number = numberOf r; tag = last; type = 0; place = p }
 
--- a value's two words are a record's
+-- Rules R5 and T1: a value's two words are a record's
 pub record Value : Type 0 where
   pub number : ℕ
   pub value : ℕ
@@ -73,7 +73,7 @@ abbrev pub valueTold : ValueRead → Value
 valueTold (valueRead.Got v q) = record { number = 0; value = valueWord v; length = lengthWord v; place = q }
 valueTold (valueRead.Refused r p) = record { number = numberOf r; value = 0; length = 0; place = p }
 
--- a place reached
+-- Rule R5: a place reached
 pub record Place : Type 0 where
   pub number : ℕ
   pub place : ℕ
@@ -82,7 +82,7 @@ abbrev pub skippedTold : Skipped → Place
 skippedTold (skipped.To q) = record { number = 0; place = q }
 skippedTold (skipped.Refused r p) = record { number = numberOf r; place = p }
 
--- a step from a place after a last tag: at the end both are as they were given
+-- Rules R5 and R9: a step from a place after a last tag: at the end both are as they were given
 pub record Field : Type 0 where
   pub number : ℕ
   pub found : ℕ
@@ -98,7 +98,7 @@ stepTold at last (step.Field f q) =
 stepTold at last step.End = record { number = 0; found = 0; tag = last; type = 0; value = 0; length = 0; place = at }
 stepTold at last (step.Refused r p t) = record { number = numberOf r; found = 0; tag = t; type = 0; value = 0; length = 0; place = p }
 
--- a message: the place and the count
+-- Rule R4: a message: the place and the count
 pub record Message : Type 0 where
   pub number : ℕ
   pub place : ℕ
@@ -108,7 +108,7 @@ abbrev pub readTold : Read → Message
 readTold (read.Accepted p n) = record { number = 0; place = p; count = n }
 readTold (read.Refused r p n) = record { number = numberOf r; place = p; count = n }
 
--- a field that was looked for: whether it was found, its type, and its value as a record has it
+-- Rules R8 and R9: a field that was looked for: whether it was found, its type, and its value as a record has it
 pub record Pick : Type 0 where
   pub number : ℕ
   pub found : ℕ
@@ -121,7 +121,7 @@ pickedTold (picked.Found f) = record { number = 0; found = 1; type = kindWord (f
 pickedTold picked.Absent = record { number = 0; found = 0; type = 0; value = 0; length = 0 }
 pickedTold (picked.Refused r) = record { number = numberOf r; found = 0; type = 0; value = 0; length = 0 }
 
--- how many there are of a tag, then the same of the one at a number
+-- Rule P5: how many there are of a tag, then the same of the one at a number
 pub record Several : Type 0 where
   pub number : ℕ
   pub count : ℕ
@@ -135,7 +135,7 @@ severalTold (severalAs.Found n f) = record { number = 0; count = n; found = 1; t
 severalTold (severalAs.Absent n) = record { number = 0; count = n; found = 0; type = 0; value = 0; length = 0 }
 severalTold (severalAs.Refused r) = record { number = numberOf r; count = 0; found = 0; type = 0; value = 0; length = 0 }
 
--- the number of keys read, then the same of the only one
+-- Rule P8: the number of keys read, then the same of the only one
 pub record Early : Type 0 where
   pub number : ℕ
   pub keys : ℕ
@@ -149,7 +149,7 @@ earlyTold (early.Found f n) = record { number = 0; keys = n; found = 1; type = k
 earlyTold (early.Absent n) = record { number = 0; keys = n; found = 0; type = 0; value = 0; length = 0 }
 earlyTold (early.Refused r) = record { number = numberOf r; keys = 0; found = 0; type = 0; value = 0; length = 0 }
 
--- a message that was written: its start and its length
+-- Rules E2, E3, E4 and R7: a message that was written: its start and its length
 pub record Wrote : Type 0 where
   pub number : ℕ
   pub start : ℕ
@@ -159,7 +159,7 @@ abbrev pub writtenTold : Written → Wrote
 writtenTold (written.At p n) = record { number = 0; start = p; length = n }
 writtenTold (written.Refused r p n) = record { number = numberOf r; start = p; length = n }
 
--- insertion: the new count, or what the refusal carries
+-- Rules I3 and R7: insertion: the new count, or what the refusal carries
 abbrev pub insertedTold : Inserted → Number
 insertedTold (inserted.Count n) = record { number = 0; value = n }
 insertedTold (inserted.Refused r n) = record { number = numberOf r; value = n }

@@ -1,4 +1,4 @@
--- The entries on values and single fields: a refused reader answers the place it was given, and the last tag if it takes one.
+-- The entries on values and single fields: a refused reader answers the place it was given, and the last tag if it takes one (rule R5).
 use Prim.Native.Nat.{ℕ}
 use mathlib.Core.List.{List}
 use lib.ListN.{length}

@@ -1,4 +1,4 @@
--- The reader's test, and how it and a step belong together.
+-- The reader's test (rule M9), and how it and a step belong together.
 use Prim.Native.Nat.{ℕ, _<_}
 use mathlib.Core.Path.{_≡_, refl, ap, _∙_, sym}
 use mathlib.Core.Bool.{Bool, true, false}
@@ -22,11 +22,11 @@ use Rattle.entry_answer.specs.declared.Step.the-variants as step
 use Rattle.entry_answer.specs.declared.More.{More}
 use Rattle.entry_answer.specs.declared.More.the-variants as more
 
--- the place before the end: there is more; at it: there is not; past it: Truncated
+-- Rules M1 and M9: the place before the end: there is more; at it: there is not; past it: Truncated
 unfoldable pub moreOf : ℕ → ℕ → More
 moreOf at e = choose (ltb at e) more.Yes (choose (eqb at e) more.No (more.Refused Truncated))
 
--- TooLong and BadCap come first, and a refusal answers its number alone
+-- Rules R3 and R8: TooLong and BadCap come first, and a refusal answers its number alone
 unfoldable pub moreEntry : List ℕ → ℕ → ℕ → More
 moreEntry s at e = through (gated (length s) at e) more.Refused (moreOf at e)
 

@@ -1,4 +1,4 @@
--- The entries on keys: a refused reader answers the place and the last tag that it was given.
+-- The entries on keys: a refused reader answers the place and the last tag that it was given (rule R5).
 use Prim.Native.Nat.{ℕ, _+_, _-_, _*_, _≤_, _<_}
 use mathlib.Core.Path.{_≡_}
 use mathlib.Core.List.{List}
@@ -30,8 +30,9 @@ keyAnswer at last (keyFound.Refused r) = keyRead.Refused r at last
 unfoldable pub decodeKey : List ℕ → ℕ → ℕ → ℕ → KeyRead
 decodeKey s at e last = through (gated (length s) at e) (λ r. keyRead.Refused r at last) (keyAnswer at last (keyAt s e at last))
 
--- ---- written: a tag below the last one is OutOfOrder, and the buffer stays
+-- ---- written (rule E5): a tag below the last one is OutOfOrder, and the buffer stays (rule R8)
 
+-- Rule K1: a key's bytes
 abbrev pub keyBytes : ℕ → ℕ → WireType → List ℕ
 keyBytes last tag w = encode (4 * (tag - last) + typeOf w)
 
@@ -41,7 +42,7 @@ keyAtFront b last tag w = choose (leb last tag) (atFront b (keyBytes last tag w)
 unfoldable pub keyAtEnd : List ℕ → ℕ → ℕ → WireType → Stored
 keyAtEnd b last tag w = choose (leb last tag) (atEnd b (keyBytes last tag w)) (record { answer = put.Refused OutOfOrder; buf = b })
 
--- measured without its wire type, which never changes the length
+-- Rules E6 and K5: measured without its wire type, which never changes the length
 unfoldable pub keyLen : ℕ → ℕ → Measured
 keyLen last tag = choose (leb last tag) (measured.Length (length (encode (4 * (tag - last))))) (measured.Refused OutOfOrder)
 

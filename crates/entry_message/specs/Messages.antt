@@ -34,7 +34,7 @@ use Rattle.entry_answer.specs.declared.Several.the-variants as severalAs
 
 -- ---- a message read into a table
 
--- TooLong and BadCap answer 0, 0, and leave the table
+-- Rule R4: TooLong and BadCap answer 0, 0, and leave the table
 unfoldable pub readEntry : List ℕ → ℕ → ℕ → List ℕ → Outcome
 readEntry s start e t = through (gated (length s) start e) (λ r. outcome (Refused r 0 0) t) (readInto s start e t)
 
@@ -57,7 +57,7 @@ partOf p = record { block = p .ptr .0; place = p .ptr .1; bytes = now p }
 abbrev pub partAt : RefT (List ℕ) → Span → Part
 partAt m p = record { block = m .ptr .0; place = m .ptr .1 + p .start; bytes = take (p .length) (drop (p .start) (now m)) }
 
--- a record's payload: the part of the message itself, not a copy
+-- Rule P1: a record's payload: the part of the message itself, not a copy
 unfoldable pub payloadPart : RefT (List ℕ) → Record → Part
 payloadPart m r = partAt m (spanOf (length (now m)) r)
 
@@ -65,7 +65,7 @@ pub part-bytes : (m : RefT (List ℕ)) (r : Record) (p : RefT (List ℕ)) → pa
 unfolding payloadPart
 part-bytes m r p e = ap (λ (x : Part). x .bytes) e
 
--- the payload from its first byte to its last is the message; places count from its first byte
+-- Rule P3: the payload from its first byte to its last is the message; places count from its first byte
 unfoldable pub readPayload : List ℕ → Record → List ℕ → Outcome
 readPayload m r t = let p = payload m r in readEntry p 0 (length p) t
 
@@ -75,13 +75,13 @@ payload-read m p r t e = ap (λ (x : List ℕ). readEntry x 0 (length x) t) e
 
 -- ---- pick
 
--- of the fields of the tag: the only one, or Absent; Repeated where there are more
+-- Rule P4: of the fields of the tag: the only one, or Absent; Repeated where there are more
 abbrev pub pickedOf : List Field → Picked
 pickedOf [] = pickedAs.Absent
 pickedOf (f ∷ []) = pickedAs.Found f
 pickedOf (f ∷ g ∷ fs) = pickedAs.Refused Repeated
 
--- the whole message is read; its refusal answers the number alone, and comes first
+-- Rules P4 and R8: the whole message is read; its refusal answers the number alone, and comes first
 abbrev pub picked : ℕ → Message → Picked
 picked tag (Fields fs) = pickedOf (ofTag tag fs)
 picked tag (reading.Refused r p) = pickedAs.Refused r
@@ -91,7 +91,7 @@ pickEntry s tag = through (gated (length s) 0 (length s)) pickedAs.Refused (pick
 
 -- ---- pick at a number
 
--- how many, and the one at number k, counted from 0
+-- Rule P5: how many, and the one at number k, counted from 0
 abbrev pub severalOf : Sought → Several
 severalOf (soughtAs.Found f n) = severalAs.Found n f
 severalOf (soughtAs.Absent n) = severalAs.Absent n
@@ -125,7 +125,7 @@ picked-several s tag = go (gated (length s) 0 (length s))
     go Open = picked-sought tag (readMessage s 0 (length s))
     go (Shut r) = refl
 
--- ---- pick from the front: where the search stops, and what it answers
+-- ---- pick from the front: where the search stops (rule P6), and what it answers (rules P7 and P8)
 
 unfoldable pub earlyEntry : List ℕ → ℕ → Early
 earlyEntry s tag = through (gated (length s) 0 (length s)) early.Refused (earlyOf tag (stop tag s))

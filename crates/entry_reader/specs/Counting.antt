@@ -18,12 +18,12 @@ use Rattle.entry_answer.specs.declared.Gated.the-variants.{Open, Shut}
 use Rattle.entry_reader.specs.declared.Counted.{Counted}
 use Rattle.entry_reader.specs.declared.Counted.the-variants as countedAs
 
--- a refusal of the message answers its number alone
+-- Rule R8: a refusal of the message answers its number alone
 abbrev pub counted : Message → Counted
 counted (Fields fs) = countedAs.Fields (length fs)
 counted (reading.Refused r p) = countedAs.Refused r
 
--- TooLong and BadCap come first
+-- Rule R3: TooLong and BadCap come first
 unfoldable pub countEntry : List ℕ → ℕ → ℕ → Counted
 countEntry s start e = through (gated (length s) start e) countedAs.Refused (counted (readMessage s start e))
 

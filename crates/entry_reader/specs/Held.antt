@@ -1,4 +1,4 @@
--- What the functions over a reader promise, each by one equation over what the reader holds; and how its test and its step belong together.
+-- What the functions over a reader promise (rule M9), each by one equation over what the reader holds; and how its test and its step belong together.
 use Prim.Native.Nat.{ℕ}
 use mathlib.Core.Path.{_≡_, sym, _∙_}
 use mathlib.Core.List.{List}

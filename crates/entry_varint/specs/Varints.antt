@@ -9,7 +9,7 @@ use Rattle.entry_answer.specs.Gate.{gated, through}
 use Rattle.entry_answer.specs.declared.VarintRead.{VarintRead}
 use Rattle.entry_answer.specs.declared.VarintRead.the-variants.{Got, Refused}
 
--- a refusal answers the place given
+-- Rule R5: a refusal answers the place given
 abbrev pub varintRead : ℕ → VarintFound → VarintRead
 varintRead at (varintFound.Got v q) = Got v q
 varintRead at (varintFound.Refused r) = Refused r at

@@ -1,4 +1,4 @@
--- Worked cases at the limit, computed: the longest payload that can be written, and one byte more.
+-- Worked cases at the limit (rule R6), computed: the longest payload that can be written, and one byte more.
 use Prim.Native.Nat.{ℕ}
 use mathlib.Core.Path.{_≡_, refl}
 use mathlib.Core.List.{[], _∷_}

@@ -7,7 +7,7 @@ use Rattle.write_insertion.specs.Insertion.{aim, Insertion, inserts}
 use Rattle.wire.specs.declared.Record.{Record}
 use Rattle.wire.specs.declared.Written.{Written}
 
--- of a source, a table, a count and a buffer: the message at the buffer's front, at its end, or its length alone
+-- Rules E2, E3 and E4: of a source, a table, a count and a buffer: the message at the buffer's front, at its end, or its length alone
 abbrev pub encodeMessage : List ℕ → List ℕ → ℕ → List ℕ → Writing
 encodeMessage s t c b = front b (plan messageLimit s t c)
 
@@ -17,6 +17,6 @@ prependMessage s t c b = back b (plan messageLimit s t c)
 abbrev pub encodedLen : List ℕ → List ℕ → ℕ → Written
 encodedLen s t c = measured (plan messageLimit s t c)
 
--- of a source, a table, a count and a new record: the record in its place
+-- Rule I1: of a source, a table, a count and a new record: the record in its place
 abbrev pub insertRecord : List ℕ → List ℕ → ℕ → Record → Insertion
 insertRecord s t c r = inserts t c r (aim messageLimit s t c r)

@@ -1,4 +1,4 @@
--- Worked cases of writing and insertion, each computed.
+-- Worked cases of writing and insertion, each computed: those of FORMAT.md that are marked Q.
 use Prim.Native.Nat.{ℕ, _^_, _-_}
 use mathlib.Core.Path.{_≡_, refl}
 use mathlib.Core.List.{List, [], _∷_, _++_}

@@ -1,4 +1,4 @@
--- The next key of the same tag: a byte below 4 that stands before the end.
+-- The next key of the same tag (rule S4): a byte below 4 that stands before the end.
 use Prim.Native.Nat.{ℕ, zero, suc, _≤_, _<_}
 use mathlib.Core.Path.{_≡_, refl}
 use mathlib.Core.Bool.{Bool, true, false}

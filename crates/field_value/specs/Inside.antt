@@ -1,4 +1,4 @@
--- Bytes up to a place that must stand in the slice and before the end: the test as code makes it, and what it says of a value.
+-- Bytes up to a place that must stand in the slice and before the end (rules C5 and C6): the test as code makes it, and what it says of a value.
 use Prim.Native.Nat.{ℕ, _≤_, _<_}
 use mathlib.Core.Path.{_≡_, refl}
 use mathlib.Core.Bool.{Bool, true, false}

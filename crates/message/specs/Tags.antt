@@ -23,11 +23,11 @@ abbrev pub firstOf : ℕ → List Field → Sought
 firstOf n [] = Absent n
 firstOf n (f ∷ fs) = Found f n
 
--- the one at number k, counted from 0, and how many there are
+-- Rule P5: the one at number k, counted from 0, and how many there are
 unfoldable pub atNumber : ℕ → List Field → Sought
 atNumber k fs = firstOf (length fs) (drop k fs)
 
--- of a message, which is read whole first
+-- Rules P4 and P5: of a message, which is read whole first
 abbrev pub sought : ℕ → ℕ → Message → Sought
 sought t k (Fields fs) = atNumber k (ofTag t fs)
 sought t k (reading.Refused r p) = Refused r

@@ -1,4 +1,4 @@
--- One tag looked for from a message's front: where the search stops, and what it answers.
+-- One tag looked for from a message's front: where the search stops (rule P6), and what it answers (rules P7 and P8).
 use Prim.Native.Nat.{ℕ, zero, suc, _+_}
 use mathlib.Core.Bool.{Bool, false}
 use mathlib.Core.List.{List, [], _∷_}
@@ -19,7 +19,7 @@ use Rattle.message.specs.Tags.{ofTag}
 use Rattle.message_early.specs.declared.Sight.{Sight}
 use Rattle.message_early.specs.declared.Sight.the-variants as sight
 
--- ---- one turn: a key above the tag t stops the search before its value is read
+-- ---- one turn: a key above the tag t stops the search before its value is read (rule P6)
 
 abbrev pub above : ℕ → KeyFound → Bool
 above t (keyFound.Got k q) = ltb t (k .tag)
@@ -59,13 +59,13 @@ stop t s = stopsFrom (length s) t s 0 0
 
 -- ---- what it answers
 
--- of the fields of the tag: the only one, or Absent, and the number of keys; Repeated where there are more
+-- Rule P7: of the fields of the tag: the only one, or Absent, and the number of keys; Repeated where there are more
 abbrev pub only : ℕ → List Field → Early
 only n [] = early.Absent n
 only n (f ∷ []) = early.Found f n
 only n (f ∷ g ∷ fs) = early.Refused Repeated
 
--- a key for every field, and that of the one above
+-- Rule P8: a key for every field, and that of the one above
 unfoldable pub earlyOf : ℕ → Stop → Early
 earlyOf t (Ends fs) = only (length fs) (ofTag t fs)
 earlyOf t (Above fs p) = only (length fs + 1) (ofTag t fs)

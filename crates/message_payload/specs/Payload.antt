@@ -12,11 +12,11 @@ use Rattle.wire.specs.Table.{goodValue, good}
 use Rattle.wire.specs.declared.Record.{Record}
 use Rattle.message_payload.specs.declared.Span.{Span}
 
--- a good LengthDelimited record of a slice of n bytes
+-- Rule P2: a good LengthDelimited record of a slice of n bytes
 abbrev pub goodPayload : ℕ → Record → Bool
 goodPayload n r = choose (eqb (r .kind) 1) (good n r) false
 
--- its start and its length; any other record has the empty part at the front
+-- Rules P1 and P2: its start and its length; any other record has the empty part at the front
 unfoldable pub spanOf : ℕ → Record → Span
 spanOf n r = choose (goodPayload n r) (record { start = r .value; length = r .length }) (record { start = 0; length = 0 })
 

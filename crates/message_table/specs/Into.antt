@@ -23,8 +23,8 @@ pub record Outcome : Type 0 where
 abbrev pub outcome : Read → List ℕ → Outcome
 outcome r t = record { answer = r; table = t }
 
--- an accepted message with room is in the table, and the end and the count are told; one without is NoRoom with the fields needed; a refusal
--- of the format has its place, and leaves the table
+-- Rules T4, T5 and R4: an accepted message with room is in the table, and the end and the count are told; one without is NoRoom with the fields
+-- needed; a refusal of the format has its place, and leaves the table
 abbrev pub landed : ℕ → List ℕ → Message → Outcome
 landed e t (Fields fs) = choose (leb (length fs) (room t)) (outcome (Accepted e (length fs)) (filled t fs)) (outcome (Refused NoRoom 0 (length fs)) t)
 landed e t (reading.Refused r p) = outcome (Refused r p 0) t

@@ -13,12 +13,12 @@ use Rattle.text_digits.specs.declared.Digit.the-variants.{Value, Other}
 abbrev pub between : ℕ → ℕ → ℕ → Bool
 between low high c = choose (leb low c) (ltb c high) false
 
--- 0 to 9, and A to F in either letter case
+-- Rule D1: 0 to 9, and A to F in either letter case
 unfoldable pub digitOf : ℕ → Digit
 digitOf c =
     choose (between 48 58 c) (Value (c - 48)) (choose (between 65 71 c) (Value (c - 55)) (choose (between 97 103 c) (Value (c - 87)) Other))
 
--- the character of a digit, letters as capitals
+-- Rule D6: the character of a digit, letters as capitals
 unfoldable pub glyph : ℕ → ℕ
 glyph d = choose (ltb d 10) (48 + d) (55 + d)
 

@@ -1,4 +1,4 @@
--- Dumps, computed: the paper's example, and how lines end.
+-- Dumps, computed: the example of FORMAT.md, and how lines end.
 use Prim.Native.Nat.{ℕ}
 use mathlib.Core.Path.{_≡_, refl}
 use mathlib.Core.List.{List, [], _∷_}
@@ -12,27 +12,27 @@ pub record Case : Type 0 where
   pub input : List ℕ
   pub output : List ℕ
 
--- the paper's example
+-- the example of FORMAT.md
 abbrev pub case1 : Case
 case1 = record { input = 48 ∷ 52 ∷ 70 ∷ 70 ∷ 70 ∷ 69 ∷ 70 ∷ 69 ∷ 70 ∷ 69 ∷ 70 ∷ 69 ∷ 70 ∷ 69 ∷ 70 ∷ 69 ∷ 70 ∷ 69 ∷ 70 ∷ 69 ∷ 48 ∷ 57 ∷ 48 ∷ 50 ∷ 67 ∷ 48 ∷ 68 ∷ 69 ∷ 48 ∷ 50 ∷ 48 ∷ 49 ∷ 48 ∷ 48 ∷ 48 ∷ 48 ∷ 48 ∷ 48 ∷ 10 ∷ 48 ∷ 52 ∷ 10 ∷ 10 ∷ []; output = 49 ∷ 32 ∷ 70 ∷ 32 ∷ 49 ∷ 32 ∷ 48 ∷ 32 ∷ 70 ∷ 70 ∷ 70 ∷ 70 ∷ 70 ∷ 70 ∷ 70 ∷ 70 ∷ 70 ∷ 70 ∷ 70 ∷ 70 ∷ 70 ∷ 70 ∷ 70 ∷ 70 ∷ 10 ∷ 49 ∷ 32 ∷ 70 ∷ 32 ∷ 51 ∷ 32 ∷ 49 ∷ 32 ∷ 67 ∷ 48 ∷ 68 ∷ 69 ∷ 10 ∷ 49 ∷ 32 ∷ 70 ∷ 32 ∷ 51 ∷ 32 ∷ 50 ∷ 32 ∷ 48 ∷ 49 ∷ 48 ∷ 48 ∷ 48 ∷ 48 ∷ 48 ∷ 48 ∷ 10 ∷ 49 ∷ 32 ∷ 79 ∷ 75 ∷ 32 ∷ 51 ∷ 32 ∷ 49 ∷ 57 ∷ 10 ∷ 50 ∷ 32 ∷ 78 ∷ 79 ∷ 32 ∷ 49 ∷ 32 ∷ 48 ∷ 10 ∷ 51 ∷ 32 ∷ 79 ∷ 75 ∷ 32 ∷ 48 ∷ 32 ∷ 48 ∷ 10 ∷ [] }
 
--- nothing prints nothing
+-- Rule D2: nothing prints nothing
 abbrev pub case2 : Case
 case2 = record { input = []; output = [] }
 
--- a single LF is an empty line
+-- Rule D2: a single LF is an empty line
 abbrev pub case3 : Case
 case3 = record { input = 10 ∷ []; output = 49 ∷ 32 ∷ 79 ∷ 75 ∷ 32 ∷ 48 ∷ 32 ∷ 48 ∷ 10 ∷ [] }
 
--- a last line without LF counts if it has a character
+-- Rule D2: a last line without LF counts if it has a character
 abbrev pub case4 : Case
 case4 = record { input = 48 ∷ 48 ∷ 48 ∷ 48 ∷ []; output = 49 ∷ 32 ∷ 70 ∷ 32 ∷ 48 ∷ 32 ∷ 48 ∷ 32 ∷ 48 ∷ 48 ∷ 48 ∷ 48 ∷ 48 ∷ 48 ∷ 48 ∷ 48 ∷ 48 ∷ 48 ∷ 48 ∷ 48 ∷ 48 ∷ 48 ∷ 48 ∷ 48 ∷ 10 ∷ 49 ∷ 32 ∷ 79 ∷ 75 ∷ 32 ∷ 49 ∷ 32 ∷ 50 ∷ 10 ∷ [] }
 
--- LF at the very end opens no further line
+-- Rule D2: LF at the very end opens no further line
 abbrev pub case5 : Case
 case5 = record { input = 48 ∷ 103 ∷ 10 ∷ 48 ∷ 10 ∷ []; output = 49 ∷ 32 ∷ 72 ∷ 69 ∷ 88 ∷ 10 ∷ 50 ∷ 32 ∷ 72 ∷ 69 ∷ 88 ∷ 10 ∷ [] }
 
--- a carriage return is a character
+-- Rule D4: a carriage return is a character
 abbrev pub case6 : Case
 case6 = record { input = 48 ∷ 49 ∷ 48 ∷ 48 ∷ 13 ∷ 10 ∷ 48 ∷ 49 ∷ 48 ∷ 48 ∷ 10 ∷ []; output = 49 ∷ 32 ∷ 72 ∷ 69 ∷ 88 ∷ 10 ∷ 50 ∷ 32 ∷ 70 ∷ 32 ∷ 48 ∷ 32 ∷ 49 ∷ 32 ∷ 45 ∷ 10 ∷ 50 ∷ 32 ∷ 79 ∷ 75 ∷ 32 ∷ 49 ∷ 32 ∷ 50 ∷ 10 ∷ [] }
 

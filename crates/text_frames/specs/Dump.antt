@@ -9,6 +9,6 @@ abbrev pub printedFrom : ℕ → List (List ℕ) → List ℕ
 printedFrom n [] = []
 printedFrom n (l ∷ ls) = printed n l ++ printedFrom (more n) ls
 
--- numbers count from 1
+-- Rule D1: numbers count from 1
 unfoldable pub dumped : List ℕ → List ℕ
 dumped input = printedFrom 1 (linesOf input)

@@ -1,4 +1,4 @@
--- What is printed of one frame: for an accepted one a line for each field and a closing line, for any other one line.
+-- What is printed of one frame (rules D3 to D7): for an accepted one a line for each field and a closing line, for any other one line.
 use Prim.Native.Nat.{ℕ}
 use mathlib.Core.List.{List, [], _∷_, _++_}
 use lib.Dec.{leb}
@@ -43,7 +43,7 @@ headed n word = decimal n ++ word
 unfoldable pub told : ℕ → List ℕ → List ℕ → List ℕ
 told n word vs = headed n word ++ spaced vs (10 ∷ [])
 
--- a varint as 16 digits, other bytes as they stand on the wire, an empty payload as a dash
+-- Rule D6: a varint as 16 digits, other bytes as they stand on the wire, an empty payload as a dash
 unfoldable pub bytesText : List ℕ → List ℕ
 bytesText [] = 45 ∷ []
 bytesText (b ∷ bs) = hexed (b ∷ bs)
@@ -54,7 +54,7 @@ valueText (Payload p) = bytesText p
 valueText (Four n) = hexed (fixed 4 n)
 valueText (Eight n) = hexed (fixed 8 n)
 
--- a field after its line's head: tag, type and value
+-- Rule D5: a field after its line's head: tag, type and value
 unfoldable pub fieldText : List ℕ → Item → List ℕ
 fieldText head i = head ++ spaced (i .tag ∷ type (i .content) ∷ []) (32 ∷ valueText (i .content) ++ 10 ∷ [])
 
@@ -64,7 +64,7 @@ fieldsText head (i ∷ is) = fieldText head i ++ fieldsText head is
 
 -- ---- a frame
 
--- a message that was read: n F tag type value for each field, then n OK count bytes; or n NO number place
+-- Rules D5 and D7: a message that was read: n F tag type value for each field, then n OK count bytes; or n NO number place
 abbrev pub messageText : ℕ → List ℕ → Message → List ℕ
 messageText n s (Fields fs) = fieldsText (headed n wordF) (items s fs) ++ told n wordOK (length fs ∷ length s ∷ [])
 messageText n s (Refused r p) = told n wordNO (numberOf r ∷ p ∷ [])
@@ -73,6 +73,6 @@ abbrev pub decodedText : ℕ → Decoded → List ℕ
 decodedText n (Decodes bs) = messageText n bs (readMessage bs 0 (length bs))
 decodedText n Fails = told n wordHEX []
 
--- line n, all of its characters: n LONG if they are more than 4,096, then n HEX if they are odd in number or one is no digit
+-- Rules D3 and D4: line n, all of its characters: n LONG if they are more than 4,096, then n HEX if they are odd in number or one is no digit
 unfoldable pub printed : ℕ → List ℕ → List ℕ
 printed n cs = choose (leb (length cs) lineLimit) (decodedText n (decoded cs)) (told n wordLONG [])

@@ -25,7 +25,7 @@ joined (Value h) (Value l) Fails = Fails
 joined (Value h) Other d = Fails
 joined Other l d = Fails
 
--- two digits a byte; an odd count or a character that is no digit fails
+-- Rule D4: two digits a byte; an odd count or a character that is no digit fails
 unfoldable pub decoded : List ℕ → Decoded
 decoded [] = Decodes []
 decoded (c ∷ []) = Fails
@@ -47,7 +47,7 @@ joins (Value h) (Value l) Fails bs e = let z : _≡_ {A = ℕ} 0 1 = cc in absur
 joins (Value h) Other r bs e = let z : _≡_ {A = ℕ} 0 1 = cc in absurd (omega arith)
 joins Other y r bs e = let z : _≡_ {A = ℕ} 0 1 = cc in absurd (omega arith)
 
--- the most characters of a frame's line
+-- Rule D3: the most characters of a frame's line
 abbrev pub lineLimit : ℕ
 lineLimit = 4096
 
@@ -63,8 +63,8 @@ framed out Fails = record { answer = Hex; out = out }
 abbrev pub tooLong : List ℕ → Framed
 tooLong out = record { answer = Long; out = out }
 
--- the first characters of a line: Long if there are more than the limit, than the line's buffer has, or than fit as bytes into the lent ones;
--- then Hex if they fail; then the bytes, at the front
+-- Rules D3 and D4: the first characters of a line: Long if there are more than the limit, than the line's buffer has, or than fit as bytes into
+-- the lent ones; then Hex if they fail; then the bytes, at the front
 unfoldable pub frameOf : List ℕ → ℕ → List ℕ → Framed
 frameOf line chars out =
     choose (leb chars lineLimit)

@@ -18,7 +18,7 @@ abbrev pub inFirst : ℕ → List (List ℕ) → List (List ℕ)
 inFirst c [] = (c ∷ []) ∷ []
 inFirst c (l ∷ ls) = (c ∷ l) ∷ ls
 
--- a line is ended by LF; a last line without LF counts if it has a character
+-- Rules D1 and D2: a line is ended by LF; a last line without LF counts if it has a character
 abbrev pub linesOf : List ℕ → List (List ℕ)
 linesOf [] = []
 linesOf (c ∷ cs) = choose (eqb c 10) ([] ∷ linesOf cs) (inFirst c (linesOf cs))

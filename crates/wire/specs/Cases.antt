@@ -1,4 +1,4 @@
--- The paper's cases, held against the definitions: one table, one theorem. Crate `demands` takes the same table to the programs.
+-- The cases of FORMAT.md that are marked P, held against the definitions: one table, one theorem. Crate `demands` takes the same table to the programs.
 use Prim.Native.Nat.{ℕ, _^_, _-_}
 use mathlib.Core.Path.{_≡_, refl}
 use mathlib.Core.List.{List, [], _∷_, _++_}
@@ -56,7 +56,7 @@ table =
     ∷ Reads (0x01 ∷ replicate 9 0xff) 0 5 (Refused InvalidVarint 0)
     ∷ Skips (0x01 ∷ replicate 9 0xff) 5 1 wireType.LengthDelimited (reached.Refused Truncated)
     ∷ Skips (0x05 ∷ 0x00 ∷ 0x06 ∷ 0x04 ∷ 0x07 ∷ []) 5 0 wireType.Varint (reached.To 3)
-    -- those that follow are not the paper's: a rule of the cap or of a place each
+    -- and a case each for rules of the end, of fixed bytes, of skipping and of places
     ∷ Reads (0x00 ∷ replicate 9 0xff) 0 9 (Refused Truncated 0)
     ∷ Reads (0x01 ∷ 0x00 ∷ []) 0 2 (Fields (record { tag = 0; value = val.LengthDelimited 2 0 } ∷ []))
     ∷ Reads (0x01 ∷ 0x00 ∷ []) 0 1 (Refused Truncated 0)

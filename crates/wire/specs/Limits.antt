@@ -1,10 +1,10 @@
 -- The numbers that the tables and the buffers have, each by one name.
 use Prim.Native.Nat.{ℕ}
 
--- the longest slice that is read, and the longest message that is written
+-- Rule R1, number 4: the longest slice that is read, and the longest message that is written
 abbrev pub messageLimit : ℕ
 messageLimit = 65535
 
--- the words of a record in a table
+-- Rule T1: the words of a record in a table
 abbrev pub recordWords : ℕ
 recordWords = 4

@@ -1,11 +1,11 @@
--- The paper's numbers.
+-- The numbers of refusals (rule R1) and of wire types (rule K2).
 use Prim.Native.Nat.{ℕ}
 use Rattle.wire.specs.declared.Refusal.{Refusal}
 use Rattle.wire.specs.declared.Refusal.the-variants.{Truncated, InvalidVarint, TagOverflowed, TooLong, NoRoom, BadRecord, OutOfOrder, BadCap, WrongWireType, OutOfRange, Repeated, MissingField}
 use Rattle.wire.specs.declared.WireType.{WireType}
 use Rattle.wire.specs.declared.WireType.the-variants.{Varint, LengthDelimited, ThirtyTwoBit, SixtyFourBit}
 
--- of a refusal; 0 is accepted
+-- Rule R1: of a refusal; 0 is accepted
 abbrev pub numberOf : Refusal → ℕ
 numberOf Truncated = 1
 numberOf InvalidVarint = 2
@@ -20,7 +20,7 @@ numberOf OutOfRange = 10
 numberOf Repeated = 11
 numberOf MissingField = 13
 
--- of a wire type
+-- Rule K2: of a wire type
 abbrev pub typeOf : WireType → ℕ
 typeOf Varint = 0
 typeOf LengthDelimited = 1

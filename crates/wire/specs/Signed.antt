@@ -1,4 +1,4 @@
--- The signed mapping: v ≥ 0 gives 2v, v < 0 gives −2v − 1.
+-- The signed mapping, there (rule N1) and back (rule N2).
 use Prim.Native.Nat.{ℕ, _+_, _*_, _/_, _%_}
 use mathlib.Core.Path.{_≡_, refl}
 use mathlib.Core.Bool.{Bool, true, false}
@@ -8,11 +8,12 @@ use lib.Dec.{eqb}
 use lib.IntN.{ℤ, pos, negsuc}
 use Rattle.wire.specs.Choose.{choose}
 
--- negsuc n is −(n + 1), so that −2v − 1 is 2n + 1
+-- Rule N1: negsuc n is −(n + 1), so that −2v − 1 is 2n + 1
 abbrev pub toUnsigned : ℤ → ℕ
 toUnsigned (pos n) = 2 * n
 toUnsigned (negsuc n) = 2 * n + 1
 
+-- Rule N2: an even number and an odd one
 unfoldable pub toSigned : ℕ → ℤ
 toSigned u = choose (eqb (u % 2) 0) (pos (u / 2)) (negsuc (u / 2))
 

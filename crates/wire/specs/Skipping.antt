@@ -1,4 +1,4 @@
--- Skipping: the values of one tag, one behind the other, passed over.
+-- Skipping: the values of one tag, one behind the other, passed over (rules S1 to S5).
 use Prim.Native.Nat.{ℕ, zero, suc, _+_, _-_}
 use mathlib.Core.Bool.{Bool, false}
 use mathlib.Core.List.{List}
@@ -14,7 +14,7 @@ use Rattle.wire.specs.declared.VarintFound.the-variants as varintFound
 use Rattle.wire.specs.declared.Reached.{Reached}
 use Rattle.wire.specs.declared.Reached.the-variants.{To, Refused}
 
--- bytes up to place q are passed if the slice has them; the end is not asked
+-- Rule S3: bytes up to place q are passed if the slice has them; the end is not asked
 abbrev pub inSlice : List ℕ → ℕ → Reached
 inSlice s q = choose (leb q (length s)) (To q) (Refused Truncated)
 
@@ -26,18 +26,18 @@ abbrev pub pastPayload : List ℕ → VarintFound → Reached
 pastPayload s (varintFound.Got n q) = inSlice s (q + n)
 pastPayload s (varintFound.Refused r) = Refused r
 
--- one value; a length too is read with the change of name
+-- Rules S1, S2 and S3: one value; a length too is read with the change of name
 unfoldable pub pastAt : List ℕ → ℕ → ℕ → WireType → Reached
 pastAt s e p Varint = pastNumber (cappedAt s e p)
 pastAt s e p LengthDelimited = pastPayload s (cappedAt s e p)
 pastAt s e p ThirtyTwoBit = inSlice s (p + 4)
 pastAt s e p SixtyFourBit = inSlice s (p + 8)
 
--- a byte remains before the end and is below 4: the next key of the same tag
+-- Rule S4: whether one more field of the same tag follows: a byte below 4 that stands before the end
 abbrev pub repeats : List ℕ → ℕ → ℕ → Bool
 repeats s e q = choose (ltb q e) (ltb (getD s q 4) 4) false
 
--- what follows a value
+-- Rules S4 and S5: what follows a value
 abbrev pub beyond : List ℕ → ℕ → Reached → (ℕ → WireType → Reached) → Reached
 beyond s e (To q) go = choose (repeats s e q) (go (suc q) (wireOf (getD s q 0))) (To q)
 beyond s e (Refused r) go = Refused r
@@ -47,6 +47,6 @@ abbrev pub skipFrom : ℕ → List ℕ → ℕ → ℕ → WireType → Reached
 skipFrom zero s e p w = pastAt s e p w
 skipFrom (suc k) s e p w = beyond s e (pastAt s e p w) (skipFrom k s e)
 
--- from a value of a wire type at place p; every value takes a byte at least
+-- Rule S1: from a value of a wire type at place p; every value takes a byte at least
 unfoldable pub skipAt : List ℕ → ℕ → ℕ → WireType → Reached
 skipAt s e p w = skipFrom (length s - p) s e p w

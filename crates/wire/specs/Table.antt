@@ -1,4 +1,4 @@
--- Tables: a record is four words, its tag, its wire type, its value or the payload's start in the slice, and its byte length.
+-- Tables: fields as records of four words, room, and which records are good (rules T1 to T4).
 use Prim.Native.Nat.{ℕ, zero, suc, _+_, _*_, _/_, _^_}
 use mathlib.Core.Path.{_≡_, refl, ap, _∙_}
 use mathlib.Core.Bool.{Bool, false}
@@ -13,7 +13,7 @@ use Rattle.wire.specs.declared.Value.the-variants.{Varint, LengthDelimit
 use Rattle.wire.specs.declared.Field.{Field}
 use Rattle.wire.specs.declared.Record.{Record}
 
--- ---- a field as a record
+-- ---- a field as a record (rule T1)
 
 abbrev pub kindWord : Value → ℕ
 kindWord (Varint v) = 0
@@ -36,7 +36,7 @@ lengthWord (SixtyFourBit v) = 8
 abbrev pub recordOf : Field → Record
 recordOf f = record { tag = f .tag; kind = kindWord (f .value); value = valueWord (f .value); length = lengthWord (f .value) }
 
--- a record's words
+-- Rule T1: a record's words
 abbrev pub words : Record → List ℕ
 words r = r .tag ∷ r .kind ∷ r .value ∷ r .length ∷ []
 
@@ -47,11 +47,11 @@ records (f ∷ fs) = words (recordOf f) ++ records fs
 
 -- ---- a table
 
--- how many records a table has room for
+-- Rule T2: how many records a table has room for
 abbrev pub room : List ℕ → ℕ
 room t = length t / recordWords
 
--- a table with the records of the fields, and the words after them as they were
+-- Rule T4: a table with the records of the fields, and the words after them as they were
 abbrev pub filled : List ℕ → List Field → List ℕ
 filled t fs = records fs ++ drop (recordWords * length fs) t
 
@@ -65,7 +65,7 @@ recordAt t i =
       length = getD t (recordWords * i + 3) 0;
     }
 
--- the value of a record's words
+-- Rule T1: the value of a record's words
 abbrev pub valueOf : ℕ → ℕ → ℕ → Value
 valueOf zero v n = Varint v
 valueOf (suc zero) v n = LengthDelimited v n
@@ -81,7 +81,7 @@ abbrev pub fieldsFrom : ℕ → List ℕ → ℕ → List Field
 fieldsFrom zero t i = []
 fieldsFrom (suc k) t i = fieldIn (recordAt t i) ∷ fieldsFrom k t (suc i)
 
--- ---- a good record, over a source of n bytes: the value and length words of each type, then the tag
+-- ---- a good record (rule T3), over a source of n bytes: the value and length words of each type, then the tag
 
 unfoldable pub goodValue : ℕ → ℕ → ℕ → ℕ → Bool
 goodValue n zero v l = eqb l 0

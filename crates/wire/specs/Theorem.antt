@@ -1,4 +1,4 @@
--- Whole messages: what is accepted is exactly what some good list of items is written as, and there is one such list.
+-- Whole messages (rule M7): what is accepted is exactly what some good list of items is written as, and there is one such list.
 use Prim.Native.Nat.{ℕ, zero, suc, _+_, _-_, _*_, _≤_, _<_}
 use mathlib.Core.Path.{_≡_, refl, ap, _∙_, sym}
 use mathlib.Core.Bool.{Bool, true, false}
@@ -129,7 +129,7 @@ pub record Written (s : List ℕ) (start e : ℕ) (is : List Item) : Type 0 wher
   pub bytes : part s start e ≡ written is
 
 module _ (s : List ℕ) (start e : ℕ) where
-  -- what is accepted is a good list, written as those bytes; each field takes two bytes
+  -- what is accepted is a good list, written as those bytes (rule M7); each field takes two bytes (rule M8)
   pub accepted : Bytes s → (fs : List Field) → readMessage s start e ≡ Fields fs → Written s start e (items s fs) × (start + 2 * length fs ≤ e)
   unfolding readMessage
   accepted h fs r =

@@ -1,4 +1,4 @@
--- Wire types and their numbers, and that a key's length does not depend on its type.
+-- Wire types and their numbers (rule K2), and that a key's length does not depend on its type (rule K5).
 use Prim.Native.Nat.{ℕ, _+_, _*_, _<_}
 use mathlib.Core.Path.{_≡_, refl}
 use native.Mathlib.Omega.{arith}
@@ -22,6 +22,6 @@ wire-type LengthDelimited = refl
 wire-type ThirtyTwoBit = refl
 wire-type SixtyFourBit = refl
 
--- A KEY IS MEASURED WITHOUT ITS TYPE: all limits are multiples of four, so the type never changes the length
+-- A KEY IS MEASURED WITHOUT ITS TYPE (rule K5): all limits are multiples of four, so the type never changes the length
 pub key-length : (d : ℕ) (w : WireType) → length (encode (4 * d + typeOf w)) ≡ length (encode (4 * d))
 key-length d w = length-four d (typeOf w) (type-below w)

@@ -1,4 +1,4 @@
--- The paper's sentences on varints, word by word, and the law that the definitions of Varint say the same.
+-- The rules on varints (rules V1, V2 and V3), each stated by itself, and the law that the definitions of Varint say the same (rule V5).
 use Prim.Native.Nat.{ℕ, zero, suc, _+_, _-_, _*_, _/_, _%_, _^_, _≤_, _<_}
 use mathlib.Core.Path.{_≡_, refl, ap, _∙_, sym}
 use mathlib.Core.Bool.{Bool, true, false}
@@ -13,22 +13,22 @@ use lib.Seq.{take-length}
 use Rattle.wire.specs.Varint.{enc, encode, Adds, sum}
 use Rattle.wire.specs.VarintLaws.{Bytes, enc-sum, length-enc, sum-ends}
 
--- byte i adds its whole value times 128^i
+-- Rule V1: byte i adds its whole value times 128^i
 abbrev pub total : ℕ → List ℕ → ℕ
 total i [] = 0
 total i (b ∷ bs) = b * 128 ^ i + total (suc i) bs
 
--- bytes that are a varint of value v, where up to k more may follow the first
+-- Rules V1 and V2: bytes that are a varint of value v, where up to k more may follow the first
 pub record Spells (k : ℕ) (bs : List ℕ) (v : ℕ) : Type 0 where
   pub some : 1 ≤ length bs
   pub few : length bs ≤ suc k
-  -- a byte below 0x80 ends it, and none does before
+  -- Rule V2: a byte below 0x80 ends it, and none does before
   pub on : (i : ℕ) → suc i < length bs → 128 ≤ getD bs i 0
   -- and the last that may follow always does
   pub end : (length bs ≡ suc k) ⊎ (getD bs (length bs - 1) 0 < 128)
   pub adds : total 0 bs ≡ v
 
--- one to nine bytes, and a sum below 2^64
+-- Rules V1 and V3: one to nine bytes, and a sum below 2^64
 pub record IsVarint (bs : List ℕ) (v : ℕ) : Type 0 where
   pub spells : Spells 8 bs v
   pub small : v < 2 ^ 64
@@ -96,7 +96,7 @@ spells (suc k) v = go (spells k (v / 128 - 1)) (ltb v 128) refl
         over (inl q) = inl (omega arith)
         over (inr h) = inr (rw (last-behind (128 + v % 128) (enc k (v / 128 - 1)) (length-enc k (v / 128 - 1) .0)) h)
 
--- EVERY NUMBER BELOW 2^64 HAS ONE ENCODING: the bytes that are a varint of v are those that v is written as
+-- EVERY NUMBER BELOW 2^64 HAS ONE ENCODING (rule V5): the bytes that are a varint of v are those that v is written as
 pub one-encoding : (bs : List ℕ) (v : ℕ) → Bytes bs → IsVarint bs v → bs ≡ encode v
 unfolding encode
 one-encoding bs v h w =

@@ -60,7 +60,7 @@ pub enum Refusal {
     MissingField,
 }
 
-// The paper's number of a refusal.
+// Rule R1: the number of a refusal.
 pub fn number_of(r: Refusal) -> u64
     ensures { λ n. ⌜ n ≡ numberOf r ⌝ }
 {

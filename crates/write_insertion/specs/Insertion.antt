@@ -14,7 +14,7 @@ use Rattle.wire.specs.declared.Refusal.the-variants.{NoRoom, BadRecord}
 use Rattle.wire.specs.declared.Inserted.{Inserted}
 use Rattle.wire.specs.declared.Inserted.the-variants.{Count, Refused}
 
--- the index behind all of the first records, so many of them, whose tag is equal or lower
+-- Rule I1: the index behind all of the first records, so many of them, whose tag is equal or lower
 abbrev pub spot : ℕ → List ℕ → ℕ → ℕ
 spot zero t tag = 0
 spot (suc i) t tag = choose (leb (recordAt t i .tag) tag) (suc i) (spot i t tag)
@@ -24,7 +24,7 @@ pub data Aim : Type 0 where
   Puts : ℕ → Aim
   Refuses : Refusal → ℕ → Aim
 
--- the tests of the records; the new record, which carries the count; the room
+-- Rules R6 and R7: the tests of the records; the new record, which carries the count; the room
 abbrev pub aimed : ℕ → List ℕ → ℕ → Record → Verdict → Aim
 aimed n t c r AllFine = choose (good n r) (choose (eqb c (room t)) (Refuses NoRoom 0) (Puts (spot c t (r .tag)))) (Refuses BadRecord c)
 aimed n t c r (First why i) = Refuses why i
@@ -39,11 +39,12 @@ pub record Insertion : Type 0 where
   pub answer : Inserted
   pub table : List ℕ
 
--- the records before the new one, the new one, those behind it moved up one, and every word behind them as it was
+-- Rule I2: the records before the new one, the new one, those behind it moved up one, and every word behind them as it was
 abbrev pub inserted : List ℕ → ℕ → Record → ℕ → List ℕ
 inserted t c r p =
     take (recordWords * p) t ++ (words r ++ part t (recordWords * p) (recordWords * c)) ++ drop (recordWords * (c + 1)) t
 
+-- Rules I3 and R2: one record more, or the table as it was
 unfoldable pub inserts : List ℕ → ℕ → Record → Aim → Insertion
 inserts t c r (Puts p) = record { answer = Count (c + 1); table = inserted t c r p }
 inserts t c r (Refuses why i) = record { answer = Refused why i; table = t }

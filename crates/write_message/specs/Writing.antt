@@ -18,7 +18,7 @@ pub data Plan : Type 0 where
   Writes : List ℕ → Plan
   Refuses : Refusal → ℕ → Plan
 
--- the tests of the records, then 4 for the output
+-- Rule R6: the tests of the records, then 4 for the output
 abbrev pub passed : ℕ → List ℕ → Verdict → Plan
 passed most bs AllFine = choose (leb (length bs) most) (Writes bs) (Refuses TooLong 0)
 passed most bs (First r i) = Refuses r i
@@ -29,25 +29,25 @@ plan most s t c = passed most (message s t c) (checked most s t c)
 
 -- ---- what is answered
 
--- a refusal answers the number that it carries, and length 0
+-- Rule R7: a refusal answers the number that it carries, and length 0
 abbrev pub refused : Refusal → ℕ → Written
 refused r i = Refused r i 0
 
--- bytes that a buffer has no room for: 0, 0
+-- Rule R7: bytes that a buffer has no room for: 0, 0
 abbrev pub noRoom : List ℕ → Written
 noRoom bs = Refused NoRoom 0 0
 
--- measuring: 0 and the length
+-- Rule E4: measuring: 0 and the length
 unfoldable pub measured : Plan → Written
 measured (Writes bs) = At 0 (length bs)
 measured (Refuses r i) = refused r i
 
--- measuring for a buffer of n bytes: 5 behind all else
+-- Rule R6: measuring for a buffer of n bytes: 5 behind all else
 unfoldable pub fitted : ℕ → Plan → Written
 fitted n (Writes bs) = choose (leb (length bs) n) (At 0 (length bs)) (noRoom bs)
 fitted n (Refuses r i) = refused r i
 
--- ---- what is left in a buffer: a refusal leaves it as it was
+-- ---- what is left in a buffer: a refusal leaves it as it was (rule R2)
 
 pub record Writing : Type 0 where
   pub answer : Written
@@ -57,7 +57,7 @@ abbrev pub into : List ℕ → Plan → (List ℕ → Writing) → Writing
 into b (Writes bs) done = choose (leb (length bs) (length b)) (done bs) (record { answer = noRoom bs; buf = b })
 into b (Refuses r i) done = record { answer = refused r i; buf = b }
 
--- The forward writer fills the buffer's front, the prepending one its end; all other bytes stay. Each answers the start and the length.
+-- Rules E2, E3 and E4: the bytes first, or last, and every other byte as it was; where they start, and how many they are
 unfoldable pub front : List ℕ → Plan → Writing
 front b p = into b p (λ bs. record { answer = At 0 (length bs); buf = bs ++ drop (length bs) b })
 

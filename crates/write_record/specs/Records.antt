@@ -14,7 +14,7 @@ use Rattle.wire.specs.declared.Refusal.the-variants.{TooLong, BadRecord, OutOfO
 use Rattle.wire.specs.declared.Weight.{Weight}
 use Rattle.wire.specs.declared.Weight.the-variants as weight
 
--- the tag before record i; before the first it is 0
+-- Rule K1: the tag before record i; before the first it is 0
 abbrev pub tagBefore : List ℕ → ℕ → ℕ
 tagBefore t zero = 0
 tagBefore t (suc i) = recordAt t i .tag
@@ -25,7 +25,7 @@ pub data Judged : Type 0 where
   Fine : Judged
   Bad : Refusal → Judged
 
--- one record behind a tag, over a source of n bytes: BadRecord before OutOfOrder
+-- Rules R6 and K4: one record behind a tag, over a source of n bytes: BadRecord before OutOfOrder
 unfoldable pub judge : ℕ → ℕ → Record → Judged
 judge n prev r = choose (good n r) (choose (leb prev (r .tag)) Fine (Bad OutOfOrder)) (Bad BadRecord)
 
@@ -40,12 +40,12 @@ andThen AllFine Fine i = AllFine
 andThen AllFine (Bad r) i = First r i
 andThen (First r j) q i = First r j
 
--- the first k records; a refusal carries the record's index
+-- Rules R6 and R7: the first k records; a refusal carries the record's index
 abbrev pub tested : ℕ → ℕ → List ℕ → Verdict
 tested zero n t = AllFine
 tested (suc i) n t = andThen (tested i n t) (judge n (tagBefore t i) (recordAt t i)) i
 
--- the order of writers, measuring and insertion: a source that is longer than most; a count above room, which carries the room; the records
+-- Rule R6: the order of writers, measuring and insertion: a source that is longer than most; a count above room, which carries the room; the records
 unfoldable pub checked : ℕ → List ℕ → List ℕ → ℕ → Verdict
 checked most s t c =
     choose (leb (length s) most) (choose (leb c (room t)) (tested c (length s) t) (First BadRecord (room t))) (First TooLong 0)
@@ -56,11 +56,11 @@ checked most s t c =
 unfoldable pub valueBytes : List ℕ → Record → List ℕ
 valueBytes s r = writtenContent (shown s (valueOf (r .kind) (r .value) (r .length)))
 
--- a record behind a tag: its key, then its value
+-- Rule E1: a record behind a tag: its key, then its value
 unfoldable pub recordBytes : List ℕ → ℕ → Record → List ℕ
 recordBytes s prev r = writtenItem prev (itemOf s (fieldIn r))
 
--- how many bytes they are: a value's, and a record's, whose key is measured without its type
+-- how many bytes they are: a value's, and a record's, whose key is measured without its type (rule K5)
 abbrev pub valueSize : ℕ → ℕ → ℕ → ℕ
 valueSize zero v l = length (encode v)
 valueSize (suc zero) v l = length (encode l) + l
@@ -86,6 +86,6 @@ weigh n prev r = sized (recordSize prev r) (judge n prev r)
 abbrev pub run : List ℕ → List ℕ → ℕ → ℕ → List ℕ
 run s t i k = writtenFrom (tagBefore t i) (items s (fieldsFrom k t i))
 
--- the message of the first c records
+-- Rule E2: the message of the first c records
 abbrev pub message : List ℕ → List ℕ → ℕ → List ℕ
 message s t c = written (items s (fieldsFrom c t 0))

@@ -8,7 +8,7 @@
 //! CAPGAUZE_SEED=7 cargo test --test oracle                             # the inputs of a seed again
 //! ```
 //!
-//! What the Rust has no word for is worked out from the paper, here and in told.rs.
+//! What the Rust has no word for is worked out from docs/FORMAT.md, here and in told.rs.
 mod chance;
 mod told;
 

@@ -1,4 +1,4 @@
-//! The paper's words for what the Rust has none: the refusals 4 to 8, what refusals carry, what stands in tables.
+//! The rules of docs/FORMAT.md for what the Rust has none: the refusals 4 to 8, what refusals carry, what stands in tables.
 use bilrost::{Blob, DecodeErrorKind};
 use capgauze::*;
 

@@ -27,7 +27,7 @@ use alloc::borrow::Cow;
 use alloc::vec::Vec;
 use bytes::{Buf, BufMut};
 
-/// A field as the paper records it: tag, wire type, value or payload's start, length.
+/// A field as a record (rule T1): tag, wire type, value or payload's start, length.
 type Record = [u64; 4];
 
 type Answer<T> = Result<T, DecodeErrorKind>;
@@ -39,7 +39,7 @@ type Written = (Vec<u8>, Vec<u8>, usize);
 
 impl Blob {
     /// Reads a message from `start` up to `end` by `borrow_merge`: its records and the place
-    /// reached, or the error's name and the place that the paper gives the refusal. (The Rust's
+    /// reached, or the error's name and the place that our rules give the refusal. (The Rust's
     /// errors have no place; it follows from where the fields that were read ended.)
     pub fn read(
         s: &[u8],
