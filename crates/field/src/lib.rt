@@ -115,7 +115,6 @@ pub fn walk_field(s: &[u8], at: usize, end: usize, last: u32) -> Stepped
     }
 }
 
-
 // One step of a message: before the end a field, at the end no more, past it Truncated.
 pub fn pass_field(s: &[u8], at: usize, end: usize, last: u32) -> Stepped
     ensures { λ r. ⌜ r ≡ stepAt (now (s .entry)) end at last ⌝ }
@@ -143,4 +142,3 @@ pub fn pass_field(s: &[u8], at: usize, end: usize, last: u32) -> Stepped
         }
     }
 }
-

@@ -132,7 +132,6 @@ pub fn value_by_kind(s: &[u8], at: usize, end: usize, kind: u64) -> ValueFound
     eight_at(s, at, end)
 }
 
-
 // A value by the number of its type: two tests, no table of jumps. It has one caller, and so is folded into it.
 pub fn value_of_type(s: &[u8], at: usize, end: usize, kind: u64) -> ValueFound
     ensures { λ r. ⌜ r ≡ valueAt (now (s .entry)) end at (wireOf kind) ⌝ }
@@ -149,7 +148,6 @@ pub fn value_of_type(s: &[u8], at: usize, end: usize, kind: u64) -> ValueFound
     eight_at(s, at, end)
 }
 
-
 // A value by the number of its type: two tests, no table of jumps. It has one caller, and so is folded into it.
 pub fn value_in_pass(s: &[u8], at: usize, end: usize, kind: u64) -> ValueFound
     ensures { λ r. ⌜ r ≡ valueAt (now (s .entry)) end at (wireOf kind) ⌝ }
@@ -165,4 +163,3 @@ pub fn value_in_pass(s: &[u8], at: usize, end: usize, kind: u64) -> ValueFound
     }
     eight_at(s, at, end)
 }
-

@@ -1,4 +1,4 @@
-// The types that every room shares, and the numbers that have a name. What the bytes mean stands in specs/.
+// The types that every crate shares, and the numbers that have a name. What the bytes mean stands in specs/.
 // WireType, Value and Refusal are from src/encoding/mod.rs, opaque.rs and error.rs of bilrost.
 ghost use mathlib.Core.Path.{_≡_};
 ghost use Rattle.wire.specs.Numbers.{numberOf};

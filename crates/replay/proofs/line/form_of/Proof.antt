@@ -1,8 +1,8 @@
 use borrow.Author.Needs.{needs}
 use Prim.Native.Nat.{_-_}
 use lib.ListN.{length}
-use Rattle.replay.proofs.form_of.Statement.{statement}
-use Rattle.replay.proofs.form_of.Tie as tie
+use Rattle.replay.proofs.line.form_of.Statement.{statement}
+use Rattle.replay.proofs.line.form_of.Tie as tie
 
 abbrev Inv-loop : tie.InvT-loop
 Inv-loop text words₀ letter at₀ n₀ asked₀ words at n asked = Unit {0}

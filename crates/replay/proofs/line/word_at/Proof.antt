@@ -1,8 +1,8 @@
 use borrow.Author.Needs.{needs}
 use Prim.Native.Nat.{_-_}
 use lib.ListN.{length}
-use Rattle.replay.proofs.word_at.Statement.{statement}
-use Rattle.replay.proofs.word_at.Tie as tie
+use Rattle.replay.proofs.line.word_at.Statement.{statement}
+use Rattle.replay.proofs.line.word_at.Tie as tie
 
 abbrev Inv-loop : tie.InvT-loop
 Inv-loop text at value₀ i₀ value i = Unit {0}

@@ -1,7 +1,7 @@
 use Prim.Native.Nat.{_-_}
 use borrow.Author.Needs.{needs}
-use Rattle.replay.proofs.put_fields.Statement.{statement}
-use Rattle.replay.proofs.put_fields.Tie as tie
+use Rattle.replay.proofs.messages.put_fields.Statement.{statement}
+use Rattle.replay.proofs.messages.put_fields.Tie as tie
 
 abbrev Inv-loop : tie.InvT-loop
 Inv-loop s tag count ours₀ k₀ ours k = Unit {0}

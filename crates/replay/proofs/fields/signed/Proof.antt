@@ -6,8 +6,8 @@ use mir.Val.{SFits, toZ, ofZ}
 use native.Mathlib.Omega.{arith}
 use Rattle.varint_signed.proofs.Signed as S
 use borrow.Author.Needs.{needs}
-use Rattle.replay.proofs.signed.Statement.{statement}
-use Rattle.replay.proofs.signed.Tie as tie
+use Rattle.replay.proofs.fields.signed.Statement.{statement}
+use Rattle.replay.proofs.fields.signed.Tie as tie
 
 -- h is half of its double, of which varint's laws speak
 twice : (h : ℕ) → 2 * h / 2 ≡ h

@@ -2,8 +2,8 @@ use borrow.Author.Needs.{needs}
 use mathlib.Core.Path.{_≡_}
 use Prim.Native.Nat.{_-_}
 use lib.ListN.{length}
-use Rattle.replay.proofs.put_words.Statement.{statement}
-use Rattle.replay.proofs.put_words.Tie as tie
+use Rattle.replay.proofs.lent.put_words.Statement.{statement}
+use Rattle.replay.proofs.lent.put_words.Tie as tie
 
 abbrev Inv-loop : tie.InvT-loop
 Inv-loop words table₀ from c₀ at₀ table c at = length table ≡ length table₀

@@ -2,8 +2,8 @@ use borrow.Author.Needs.{needs}
 use mathlib.Core.Path.{_≡_}
 use Prim.Native.Nat.{_-_}
 use lib.ListN.{length}
-use Rattle.replay.proofs.put_bytes.Statement.{statement}
-use Rattle.replay.proofs.put_bytes.Tie as tie
+use Rattle.replay.proofs.lent.put_bytes.Statement.{statement}
+use Rattle.replay.proofs.lent.put_bytes.Tie as tie
 
 abbrev Inv-loop : tie.InvT-loop
 Inv-loop words source₀ from c₀ at₀ source c at = length source ≡ length source₀

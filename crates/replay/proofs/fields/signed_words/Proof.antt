@@ -1,7 +1,7 @@
 use Rattle.varint_signed.proofs.Signed as S
 use borrow.Author.Needs.{needs}
-use Rattle.replay.proofs.signed_words.Statement.{statement}
-use Rattle.replay.proofs.signed_words.Tie as tie
+use Rattle.replay.proofs.fields.signed_words.Statement.{statement}
+use Rattle.replay.proofs.fields.signed_words.Tie as tie
 
 cast-two : tie.Need-cast-two
 cast-two c = S.casts _ (c .before .before .fits .v) (c .before .if1 .taken)
