@@ -90,9 +90,9 @@ pub use Rattle.text_lines.proofs.Only.{take-line-one as lines-take-line-one}
 -- frames as text
 pub use Rattle.text_frames.proofs.Only.{put-frame-one as frames-put-frame-one}
 -- single fields as numbers
-pub use Rattle.sounding_value.proofs.Only.{find-one as single-find-one}
+pub use Rattle.sounding_value.proofs.Only.{number-of-one as single-number-of-one}
 pub use Rattle.sounding_value.proofs.Only.{need-one as single-need-one}
-pub use Rattle.sounding_value.proofs.Only.{bounded-one as single-bounded-one}
+pub use Rattle.sounding_value.proofs.Only.{limit-one as single-limit-one}
 pub use Rattle.sounding_value.proofs.Only.{measure-one as single-measure-one}
 -- soundings
 pub use Rattle.sounding.proofs.Only.{read-sounding-one as sounding-read-sounding-one}

@@ -13,9 +13,9 @@ use Rattle.wire.specs.declared.Value.the-variants.{Varint, LengthDelimited, Thi
 use Rattle.wire.specs.declared.Field.{Field}
 use Rattle.message.specs.Tags.{ofTag}
 use Rattle.sounding_value.specs.Values.{allOnes, inRange}
-use Rattle.sounding_value.specs.declared.Quantity.{Quantity}
-use Rattle.sounding_value.specs.declared.Quantity.the-variants.{Temperature, Depression}
+use Rattle.sounding.specs.Layout.{Item, Station, Launch, Pressure, Temperature, Depression, lineOf, tagOf, levelTag}
 use Rattle.sounding.specs.Words.{levelRoom}
+use Rattle.sounding.specs.declared.layout.Line.{Line}
 use Rattle.demands.specs.Order.{Rule, when}
 use Rattle.demands.specs.Rules.{orderR, messageRules, fieldsIn}
 
@@ -29,36 +29,36 @@ otherType (f ∷ fs) = not (eqb (kindWord (f .value)) 0)
 abbrev pub sentRules : List Field → List Rule
 sentRules gs = when (ltb 1 (length gs)) Repeated ∷ when (otherType gs) WrongWireType ∷ []
 
--- Rule L6: 13 if there is none
-abbrev pub neededRules : List Field → List Rule
-neededRules gs = sentRules gs ++ (when (eqb (length gs) 0) MissingField ∷ [])
+-- Rule L6: 13 if there is none, and the layout does not let it be missing
+abbrev pub lacks : Line → List Field → Bool
+lacks l [] = not (l .missing)
+lacks l (f ∷ fs) = false
 
--- Rules L1 and L2: 10 if its number is not from 1 up to the most
-abbrev pub numberIn : List Field → ℕ
-numberIn [] = 0
-numberIn (f ∷ fs) = valueWord (f .value)
+-- Rules L1, L2 and L5: 10 if its number lies outside the range; where it may be missing, all ones is no number
+abbrev pub outside : Line → ℕ → Bool
+outside l v = choose (choose (l .missing) (eqb v allOnes) false) false (not (inRange (l .range) v))
 
-abbrev pub boundedRules : ℕ → List Field → List Rule
-boundedRules most gs = neededRules gs ++ (when (ltb (numberIn gs) 1) OutOfRange ∷ when (ltb most (numberIn gs)) OutOfRange ∷ [])
+abbrev pub strays : Line → List Field → Bool
+strays l [] = false
+strays l (f ∷ fs) = outside l (valueWord (f .value))
 
--- Rules L2 and L5: of a value that a sensor may have missed: 10 if its number is not all ones and lies outside the range
-abbrev pub strays : Quantity → List Field → Bool
-strays q [] = false
-strays q (f ∷ fs) = choose (eqb (valueWord (f .value)) allOnes) false (not (inRange q (valueWord (f .value))))
+abbrev pub lineRules : Line → List Field → List Rule
+lineRules l gs = sentRules gs ++ (when (lacks l gs) MissingField ∷ when (strays l gs) OutOfRange ∷ [])
 
-abbrev pub measuredRules : Quantity → List Field → List Rule
-measuredRules q gs = sentRules gs ++ (when (strays q gs) OutOfRange ∷ [])
+-- of a single field, by its line of the layout
+abbrev pub itemRules : Item → List Field → List Rule
+itemRules i fs = lineRules (lineOf i) (ofTag (tagOf i) fs)
 
 -- ---- a level: pressure, temperature, depression
 
 abbrev pub levelRules : List Field → List Rule
-levelRules fs = boundedRules 110000 (ofTag 1 fs) ++ (measuredRules Temperature (ofTag 2 fs) ++ measuredRules Depression (ofTag 3 fs))
+levelRules fs = itemRules Pressure fs ++ (itemRules Temperature fs ++ itemRules Depression fs)
 
 -- the bytes of one: as a message, then tag by tag
 abbrev pub levelBytesRules : List ℕ → List Rule
 levelBytesRules p = orderR p 0 (length p) (messageRules p 0 (length p) ++ levelRules (fieldsIn p 0 (length p)))
 
--- Rule L1: a field of tag 3: 9 if it is no payload
+-- a field of the levels' tag: 9 if it is no payload
 abbrev pub levelInRules : List ℕ → Value → List Rule
 levelInRules s (LengthDelimited p n) = levelBytesRules (take n (drop p s))
 levelInRules s (Varint v) = when true WrongWireType ∷ []
@@ -73,7 +73,7 @@ eachRules s (f ∷ fs) = levelInRules s (f .value) ++ eachRules s fs
 
 abbrev pub soundingRules : List ℕ → List ℕ → List Field → List Rule
 soundingRules s t fs =
-    boundedRules 99999 (ofTag 1 fs) ++ (neededRules (ofTag 2 fs) ++ (eachRules s (ofTag 3 fs) ++ (when (ltb (levelRoom t) (length (ofTag 3 fs))) NoRoom ∷ [])))
+    itemRules Station fs ++ (itemRules Launch fs ++ (eachRules s (ofTag levelTag fs) ++ (when (ltb (levelRoom t) (length (ofTag levelTag fs))) NoRoom ∷ [])))
 
 abbrev pub readSoundingOrder : List ℕ → List ℕ → List Rule
 readSoundingOrder s t = orderR s 0 (length s) (messageRules s 0 (length s) ++ soundingRules s t (fieldsIn s 0 (length s)))

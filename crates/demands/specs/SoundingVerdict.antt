@@ -30,20 +30,23 @@ use Rattle.sounding_value.specs.declared.NumberFound.the-variants as numberFoun
 use Rattle.sounding_value.specs.declared.Measured.the-variants.{Missing}
 use Rattle.sounding_value.specs.declared.MeasuredFound.{MeasuredFound}
 use Rattle.sounding_value.specs.declared.MeasuredFound.the-variants as measuredFound
-use Rattle.sounding_value.specs.declared.Quantity.{Quantity}
-use Rattle.sounding_value.specs.declared.Quantity.the-variants.{Temperature, Depression}
+use Rattle.sounding_value.specs.declared.Range.{Range}
+use Rattle.sounding.specs.Layout.{Station, Launch, Pressure, Temperature, Depression, tagOf, rangeOf, levelTag}
+use Rattle.sounding.specs.Soundings.{numberAs, measuredAs}
 use Rattle.sounding.specs.Soundings.{levelOf, level, levelIn, Levels, All, Refused, also, each, levels, headOf, head, Judgement, judged, judge, opened}
 use Rattle.sounding.specs.Words.{levelRoom, Outcome, stored, readSounding}
 use Rattle.sounding.specs.Promises.{each-all}
 use Rattle.sounding.specs.Told.{soundingTold}
 use Rattle.sounding.specs.declared.Level.{Level}
+use Rattle.sounding.specs.declared.layout.Line.{Line}
 use Rattle.sounding.specs.declared.LevelFound.{LevelFound}
 use Rattle.sounding.specs.declared.LevelFound.the-variants as levelFound
 use Rattle.demands.specs.Order.{Rule, when, firstOf, Numbered, orElse, refused-first, ordered}
 use Rattle.demands.specs.Rules.{orderR, messageRules, fieldsIn}
 use Rattle.demands.specs.RulesLaws.{above, behind, messageNumber, message-told, fields-read}
 use Rattle.demands.specs.Verdicts.{order-r}
-use Rattle.demands.specs.SoundingRules.{sentRules, neededRules, numberIn, boundedRules, strays, measuredRules, levelRules, levelInRules, eachRules, soundingRules, readSoundingOrder}
+use Rattle.demands.specs.SoundingRules.{sentRules, lacks, strays, lineRules, itemRules}
+use Rattle.demands.specs.SoundingRules.{levelRules, levelInRules, eachRules, soundingRules, readSoundingOrder}
 use Rattle.sounding.proofs.read_sounding.Kinds as read-sounding
 use Rattle.sounding.proofs.read_sounding.Reads as read-sounding-reads
 
@@ -84,31 +87,36 @@ module _ (number : Single → ℕ) (refused : (r : Refusal) → number (single.R
       go (ThirtyTwoBit v) e = rw e (refused _)
       go (SixtyFourBit v) e = rw e (refused _)
 
-needed-told : (gs : List Field) → foundNumber (needed (oneSent gs)) ≡ firstOf (neededRules gs)
-needed-told = sent-told (λ x. foundNumber (needed x)) (λ r. refl) (λ gs. when (eqb (length gs) 0) MissingField ∷ []) refl (λ f v e. refl)
+-- what a line of the layout asks of the fields of its tag
+abbrev asked : Line → List Field → List Rule
+asked l gs = when (lacks l gs) MissingField ∷ when (strays l gs) OutOfRange ∷ []
 
-bounded-told : (most : ℕ) (gs : List Field) → foundNumber (between 1 most (needed (oneSent gs))) ≡ firstOf (boundedRules most gs)
-unfolding between
-bounded-told most =
-    sent-told (λ x. foundNumber (between 1 most (needed x))) (λ r. refl)
-    (λ gs. when (eqb (length gs) 0) MissingField ∷ when (ltb (numberIn gs) 1) OutOfRange ∷ when (ltb most (numberIn gs)) OutOfRange ∷ []) refl (λ f v e. rw e (go v (leb 1 v) refl (leb v most) refl))
-  where
-    go : (v : ℕ) (a : Bool) → leb 1 v ≡ a → (b : Bool) → leb v most ≡ b
-        → foundNumber (between 1 most (numberFound.Got v)) ≡ firstOf (when (ltb v 1) OutOfRange ∷ when (ltb most v) OutOfRange ∷ [])
-    go v false a b x = rw (above 1 v, a)
-    go v true a false b = rw (above 1 v, above v most, a, b)
-    go v true a true b = rw (above 1 v, above v most, a, b)
+module _ (t : ℕ) (q : Range) where
+  -- where it must be there
+  abbrev needs : Line
+  needs = record { tag = t; range = q; missing = false }
 
-measured-told : (q : Quantity) (gs : List Field) → measuredNumber (measured q (oneSent gs)) ≡ firstOf (measuredRules q gs)
-unfolding measured
-measured-told q =
-    sent-told (λ x. measuredNumber (measured q x)) (λ r. refl) (λ gs. when (strays q gs) OutOfRange ∷ []) refl (λ f v e. rw e (go v (eqb v allOnes) refl (inRange q v) refl))
-  where
-    go : (v : ℕ) (a : Bool) → eqb v allOnes ≡ a → (b : Bool) → inRange q v ≡ b
-        → measuredNumber (measured q (single.Number v)) ≡ firstOf (when (choose (eqb v allOnes) false (not (inRange q v))) OutOfRange ∷ [])
-    go v true a b x = rw a
-    go v false a true b = rw (a, b)
-    go v false a false b = rw (a, b)
+  needed-told : (gs : List Field) → foundNumber (between q (needed (oneSent gs))) ≡ firstOf (lineRules needs gs)
+  unfolding between
+  needed-told = sent-told (λ x. foundNumber (between q (needed x))) (λ r. refl) (asked needs) refl (λ f v e. rw e (go v (inRange q v) refl))
+    where
+      go : (v : ℕ) (b : Bool) → inRange q v ≡ b → foundNumber (between q (numberFound.Got v)) ≡ firstOf (when (not (inRange q v)) OutOfRange ∷ [])
+      go v true b = rw b
+      go v false b = rw b
+
+  -- where it may be missing
+  abbrev misses : Line
+  misses = record { tag = t; range = q; missing = true }
+
+  measured-told : (gs : List Field) → measuredNumber (measured q (oneSent gs)) ≡ firstOf (lineRules misses gs)
+  unfolding measured
+  measured-told = sent-told (λ x. measuredNumber (measured q x)) (λ r. refl) (asked misses) refl (λ f v e. rw e (go v (eqb v allOnes) refl (inRange q v) refl))
+    where
+      go : (v : ℕ) (a : Bool) → eqb v allOnes ≡ a → (b : Bool) → inRange q v ≡ b
+          → measuredNumber (measured q (single.Number v)) ≡ firstOf (when (choose (eqb v allOnes) false (not (inRange q v))) OutOfRange ∷ [])
+      go v true a b x = rw a
+      go v false a true b = rw (a, b)
+      go v false a false b = rw (a, b)
 
 -- ---- a message that is refused, or read and then judged by its fields
 
@@ -129,9 +137,13 @@ module _ (number : Message → ℕ) (refused : (r : Refusal) (p : ℕ) → numbe
 level-told : (fs : List Field) → levelNumber (level (Fields fs)) ≡ firstOf (levelRules fs)
 unfolding level sent
 level-told fs =
-    go (between 1 110000 (needed (oneSent (ofTag 1 fs)))) (measured Temperature (oneSent (ofTag 2 fs))) (measured Depression (oneSent (ofTag 3 fs)))
-    ∙ behind (boundedRules 110000 (ofTag 1 fs)) (measuredRules Temperature (ofTag 2 fs) ++ measuredRules Depression (ofTag 3 fs)) (bounded-told 110000 (ofTag 1 fs))
-    (behind (measuredRules Temperature (ofTag 2 fs)) (measuredRules Depression (ofTag 3 fs)) (measured-told Temperature (ofTag 2 fs)) (measured-told Depression (ofTag 3 fs)))
+    let p = oneSent (ofTag (tagOf Pressure) fs) in
+    let t = oneSent (ofTag (tagOf Temperature) fs) in
+    let d = oneSent (ofTag (tagOf Depression) fs) in
+    go (numberAs Pressure p) (measuredAs Temperature t) (measuredAs Depression d)
+    ∙ behind (itemRules Pressure fs) (itemRules Temperature fs ++ itemRules Depression fs) (needed-told _ (rangeOf Pressure) (ofTag (tagOf Pressure) fs))
+    (behind (itemRules Temperature fs) (itemRules Depression fs)
+    (measured-told _ (rangeOf Temperature) (ofTag (tagOf Temperature) fs)) (measured-told _ (rangeOf Depression) (ofTag (tagOf Depression) fs)))
   where
     go : (p : NumberFound) (t d : MeasuredFound) → levelNumber (levelOf p t d) ≡ orElse (foundNumber p) (orElse (measuredNumber t) (measuredNumber d))
     go (numberFound.Refused r) t d = sym (refused-first r _)
@@ -187,10 +199,15 @@ stored-told t (numberFound.Got s) (numberFound.Got l) (All ks) n h = rw (← (h 
 sounding-told : (s t : List ℕ) (fs : List Field) → soundingNumber t (judge (opened s) (Fields fs)) ≡ firstOf (soundingRules s t fs)
 unfolding judge head levels sent
 sounding-told s t fs =
-    let room = when (ltb (levelRoom t) (length (ofTag 3 fs))) NoRoom ∷ [] in
-    stored-told t (between 1 99999 (needed (oneSent (ofTag 1 fs)))) (needed (oneSent (ofTag 2 fs))) (each (opened s) (ofTag 3 fs)) (length (ofTag 3 fs)) (λ ls h. each-all (opened s) (record { tag = 3; value = Varint 0 }) (record { pressure = 0; temperature = Missing; depression = Missing }) (ofTag 3 fs) ls h .0)
-    ∙ behind (boundedRules 99999 (ofTag 1 fs)) (neededRules (ofTag 2 fs) ++ (eachRules s (ofTag 3 fs) ++ room)) (bounded-told 99999 (ofTag 1 fs))
-    (behind (neededRules (ofTag 2 fs)) (eachRules s (ofTag 3 fs) ++ room) (needed-told (ofTag 2 fs)) (behind (eachRules s (ofTag 3 fs)) room (each-told s (ofTag 3 fs)) refl))
+    let ls = ofTag levelTag fs in
+    let room = when (ltb (levelRoom t) (length ls)) NoRoom ∷ [] in
+    let f : Field = record { tag = levelTag; value = Varint 0 } in
+    let l : Level = record { pressure = 0; temperature = Missing; depression = Missing } in
+    stored-told t (numberAs Station (oneSent (ofTag (tagOf Station) fs))) (numberAs Launch (oneSent (ofTag (tagOf Launch) fs))) (each (opened s) ls) (length ls)
+    (λ ks h. each-all (opened s) f l ls ks h .0)
+    ∙ behind (itemRules Station fs) (itemRules Launch fs ++ (eachRules s ls ++ room)) (needed-told _ (rangeOf Station) (ofTag (tagOf Station) fs))
+    (behind (itemRules Launch fs) (eachRules s ls ++ room) (needed-told _ (rangeOf Launch) (ofTag (tagOf Launch) fs))
+    (behind (eachRules s ls) room (each-told s ls) refl))
 
 sounding-refused : (s t : List ℕ) (r : Refusal) (p : ℕ) → soundingNumber t (judge (opened s) (reading.Refused r p)) ≡ numberOf r
 unfolding judge head levels sent between
