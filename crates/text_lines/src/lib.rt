@@ -1,7 +1,10 @@
 // Lines of characters, taken from blocks of input.
 ghost use mathlib.Core.Path.{_≡_};
 ghost use lib.ListN.{set};
+ghost use mathlib.Core.Bool.{true};
 ghost use Rattle.text_lines.specs.Lines.{takeLine};
+ghost use Rattle.text_lines.specs.LineLaws.{Clear};
+ghost use Rattle.text_lines.specs.Steps.{Plain, stepSize};
 ghost use Rattle.text_lines.specs.Lines.{more as Lines·more};
 
 // A whole line: the place after its LF, and its characters. Or the characters of the part that a block ends in.
@@ -25,6 +28,51 @@ fn keep(line: &mut [u8], n: usize, c: u8)
     }
 }
 
+// 1 for LF, else what is given. It has no branch to take, so that the compiler tests many characters at a time.
+fn one_if_ended(c: u8, other: u8) -> u8
+    ensures { λ r. ⌜ (r ≡ 0 → (other ≡ 0) × (c ≡ 10 → ⊥)) ⌝ }
+{
+    if c == b'\n' { 1 } else { other }
+}
+
+// 0 only if no character is LF.
+fn ended(part: &[u8]) -> u8
+    ensures { λ r. ⌜ (r ≡ 0 → Clear (now (part .entry))) ⌝ }
+{
+    let mut found: u8 = 0;
+    let mut i = 0;
+    while i < part.len() {
+        found = one_if_ended(part[i], found);
+        i += 1;
+    }
+    found
+}
+
+// The characters that are taken at a time.
+const STEP: usize = 64;
+
+// Whether the block has so many more of them, the line has room for them, and none is LF.
+fn plain(block: &[u8], at: usize, line: &[u8], n: usize) -> bool
+    ensures { λ r. ⌜ (r ≡ true → Plain (now (block .entry)) at (now (line .entry)) n stepSize) ⌝ }
+{
+    if block.len() < at {
+        return false;
+    }
+    if block.len() - at < STEP {
+        return false;
+    }
+    if line.len() < n {
+        return false;
+    }
+    if line.len() - n < STEP {
+        return false;
+    }
+    if 0 < ended(&block[at..at + STEP]) {
+        return false;
+    }
+    true
+}
+
 // The characters of a block from a place on, up to LF, put behind those that the line has already. What the line has no room for is counted
 // and not kept.
 pub fn take_line(block: &[u8], at: usize, line: &mut [u8], chars: usize) -> Taken
@@ -32,6 +80,11 @@ pub fn take_line(block: &[u8], at: usize, line: &mut [u8], chars: usize) -> Take
 {
     let mut i = at;
     let mut n = chars;
+    while plain(block, i, line, n) {
+        place::put_part(line, n, block, i, STEP);
+        i += STEP;
+        n += STEP;
+    }
     while i < block.len() {
         let c = block[i];
         i += 1;
