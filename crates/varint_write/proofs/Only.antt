@@ -3,12 +3,17 @@ use mathlib.Core.Path.{_∙_, sym}
 use denote.Ref.{now}
 use Rattle.wire.specs.Only.{One}
 use Rattle.place.specs.Place.{Placed}
+use Rattle.varint_write.proofs.varint_limit.Kinds as varint-limit
+use Rattle.varint_write.proofs.varint_limit.Reads as varint-limit-reads
 use Rattle.varint_write.proofs.encoded_len_varint.Kinds as encoded-len-varint
 use Rattle.varint_write.proofs.encoded_len_varint.Reads as encoded-len-varint-reads
 use Rattle.varint_write.proofs.put_varint.Kinds as put-varint
 use Rattle.varint_write.proofs.put_varint.Reads as put-varint-reads
 use Rattle.varint_write.proofs.prepend_varint.Kinds as prepend-varint
 use Rattle.varint_write.proofs.prepend_varint.Reads as prepend-varint-reads
+
+pub varint-limit-one : One 0 varint-limit.ps varint-limit.r varint-limit-reads.Post (λ κs r s. r)
+varint-limit-one κs a x y s t p q = p ∙ sym q
 
 pub encoded-len-varint-one : One 0 encoded-len-varint.ps encoded-len-varint.r encoded-len-varint-reads.Post (λ κs r s. r)
 encoded-len-varint-one κs a x y s t p q = p ∙ sym q

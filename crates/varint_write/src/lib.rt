@@ -5,6 +5,7 @@ ghost use Prim.Native.Nat.{_+_, _≤_, _<_};
 ghost use lib.ListN.{length};
 ghost use lib.Seq.{sets};
 ghost use Rattle.wire.specs.Varint.{encode};
+ghost use Rattle.wire.specs.VarintLength.{limitAt};
 ghost use Rattle.place.specs.Place.{putAt, prependAt};
 
 // The smallest numbers that are written as one byte, as two, and so on up to nine.
@@ -19,6 +20,18 @@ pub const VARINT_LIMIT: [u64; 9] = [
     0x2_0408_1020_4080,
     0x102_0408_1020_4080,
 ];
+
+// The entry at an index; 0 behind the last.
+pub fn varint_limit(i: usize) -> u64
+    ensures { λ r. ⌜ r ≡ limitAt i ⌝ }
+{
+    if i < 9 {
+        return VARINT_LIMIT[i];
+    }
+    0
+}
+
+const L0: u64 = VARINT_LIMIT[0];
 
 const L1: u64 = VARINT_LIMIT[1];
 
@@ -41,7 +54,7 @@ pub fn encoded_len_varint(v: u64) -> usize
     ensures { λ r. ⌜ r ≡ length (encode v) ⌝ }
 {
     match v {
-        0..L1 => 1,
+        L0..L1 => 1,
         L1..L2 => 2,
         L2..L3 => 3,
         L3..L4 => 4,
