@@ -11,7 +11,9 @@ use Rattle.wire.specs.declared.Refusal.the-variants.{NoRoom}
 use Rattle.wire.specs.declared.Field.{Field}
 use Rattle.wire.specs.declared.Read.the-variants.{Accepted, Refused}
 use Rattle.message_table.specs.Into.{Outcome, into-fits, into-no-room}
+use Rattle.wire.specs.Numbers.{numberOf}
 use Rattle.entry_answer.specs.Gate.{gated, through, through-open}
+use Rattle.entry_answer.specs.Told.{Number}
 use Rattle.entry_message.specs.Messages.{readEntry}
 use Rattle.entry_answer.specs.declared.Gated.{Gated}
 use Rattle.entry_answer.specs.declared.Gated.the-variants.{Open, Shut}
@@ -23,7 +25,12 @@ abbrev pub counted : Message → Counted
 counted (Fields fs) = countedAs.Fields (length fs)
 counted (reading.Refused r p) = countedAs.Refused r
 
--- Rule R3: TooLong and BadCap come first
+-- the paper's number and value for each case
+abbrev pub countedTold : Counted → Number
+countedTold (countedAs.Fields n) = record { number = 0; value = n }
+countedTold (countedAs.Refused r) = record { number = numberOf r; value = 0 }
+
+-- TooLong and BadCap come first
 unfoldable pub countEntry : List ℕ → ℕ → ℕ → Counted
 countEntry s start e = through (gated (length s) start e) countedAs.Refused (counted (readMessage s start e))
 
