@@ -3,6 +3,7 @@ use Prim.Native.Nat.{ℕ, _+_, _-_, _≤_, _<_}
 use mathlib.Core.Path.{_≡_, refl, ap, _∙_, sym}
 use mathlib.Core.Bool.{Bool, true, false}
 use mathlib.Core.List.{List, _++_}
+use mathlib.Core.Logic.{_⊎_, inl, inr}
 use native.Mathlib.Omega.{arith}
 use borrow.Author.Tests.{le-leb, lt-leb, leb-true, leb-false}
 use lib.Dec.{leb}
@@ -14,7 +15,7 @@ use Rattle.wire.specs.Places.{part}
 use Rattle.wire.specs.Reading.{Message, Fields, readMessage}
 use Rattle.wire.specs.Reading as reading
 use Rattle.wire.specs.Theorem.{accepted}
-use Rattle.wire.specs.Table.{room}
+use Rattle.wire.specs.Table.{room, filled}
 use Rattle.write_message.specs.Writing.{Writes, plan, Writing, front, back}
 use Rattle.write_message.specs.WritingLaws.{into-writes}
 use Rattle.write_message.specs.ReadBack.{table-plan}
@@ -24,7 +25,14 @@ use Rattle.wire.specs.declared.Read.{Read}
 use Rattle.wire.specs.declared.Read.the-variants as read
 use Rattle.wire.specs.declared.Written.the-variants.{At}
 use Rattle.message_table.specs.Into.{Outcome, outcome, readInto, into-refused, into-no-room, into-fits}
-use Rattle.entry_answer.specs.Gate.{gated-long}
+use Rattle.wire.specs.Numbers.{numberOf}
+use Rattle.entry_answer.specs.Gate.{gated, gated-long}
+use Rattle.entry_answer.specs.Told.{Number}
+use Rattle.entry_answer.specs.declared.Gated.{Gated}
+use Rattle.entry_answer.specs.declared.Gated.the-variants.{Open, Shut}
+use Rattle.entry_reader.specs.Counting.{countEntry}
+use Rattle.entry_reader.specs.declared.Counted.{Counted}
+use Rattle.entry_reader.specs.declared.Counted.the-variants as countedAs
 use Rattle.entry_message.specs.Messages.{readEntry, entry-open}
 use Rattle.entry_write.specs.Writers.{encodeMessage, prependMessage}
 use Rattle.entry_copy.specs.declared.Copied.{Copied}
@@ -40,34 +48,61 @@ pub record Copying : Type 0 where
 abbrev pub stays : Refusal → List ℕ → List ℕ → List ℕ → Copying
 stays r t f b = record { answer = copiedAs.Refused r; table = t; front = f; back = b }
 
--- after a read that left u of the table
+-- after a read that left u of the table: NoRoom for a buffer that is shorter than the message
 abbrev pub copiedBy : List ℕ → List ℕ → List ℕ → List ℕ → Read → List ℕ → Copying
 copiedBy s t f b (read.Accepted e n) u =
-    record { answer = copiedAs.Fields n; table = u; front = s ++ drop (length s) f; back = take (length b - length s) b ++ s }
+    choose (leb (length s) (length f))
+    (choose (leb (length s) (length b))
+    (record { answer = copiedAs.Fields n; table = u; front = s ++ drop (length s) f; back = take (length b - length s) b ++ s })
+    (stays NoRoom t f b))
+    (stays NoRoom t f b)
 copiedBy s t f b (read.Refused r p n) u = stays r t f b
 
--- a buffer too short, then the whole message read
+-- the whole message is read first
 unfoldable pub copied : List ℕ → List ℕ → List ℕ → List ℕ → Copying
-copied s t f b =
-    let o = readEntry s 0 (length s) t in
-    choose (leb (length s) (length f)) (choose (leb (length s) (length b)) (copiedBy s t f b (o .answer) (o .table)) (stays NoRoom t f b)) (stays NoRoom t f b)
+copied s t f b = let o = readEntry s 0 (length s) t in copiedBy s t f b (o .answer) (o .table)
+
+-- where a buffer is too short: the message's own refusal, or NoRoom
+abbrev pub shortOf : Counted → Refusal
+shortOf (countedAs.Fields n) = NoRoom
+shortOf (countedAs.Refused r) = r
+
+-- the paper's number and value for each case
+abbrev pub copiedTold : Copied → Number
+copiedTold (copiedAs.Fields n) = record { number = 0; value = n }
+copiedTold (copiedAs.Refused r) = record { number = numberOf r; value = 0 }
 
 -- ---- its cases
 
 module _ (s t f b : List ℕ) where
-  pub short-front : length f < length s → copied s t f b ≡ stays NoRoom t f b
+  pub copied-read : (r : Read) (u : List ℕ) → outcome r u ≡ readEntry s 0 (length s) t → copied s t f b ≡ copiedBy s t f b r u
   unfolding copied
-  short-front h = rw (lt-leb (length s) (length f) h)
+  copied-read r u e = sym (ap (λ (o : Outcome). copiedBy s t f b (o .answer) (o .table)) e)
 
-  pub short-back : length s ≤ length f → length b < length s → copied s t f b ≡ stays NoRoom t f b
-  unfolding copied
-  short-back h g = rw (le-leb (length s) (length f) h, lt-leb (length s) (length b) g)
+  module _ (h : (length f < length s) ⊎ (length b < length s)) where
+    accepted-short : (e n : ℕ) (u : List ℕ) → copiedBy s t f b (read.Accepted e n) u ≡ stays NoRoom t f b
+    accepted-short e n u = go (leb (length s) (length f)) refl (leb (length s) (length b)) refl h
+      where
+        go : (x : Bool) → leb (length s) (length f) ≡ x → (y : Bool) → leb (length s) (length b) ≡ y → (length f < length s) ⊎ (length b < length s)
+            → copiedBy s t f b (read.Accepted e n) u ≡ stays NoRoom t f b
+        go false x y z k = rw x
+        go true x false z k = rw (x, z)
+        go true x true z (inl k) = absurd (omega (arith, leb-true (length s) (length f) x))
+        go true x true z (inr k) = absurd (omega (arith, leb-true (length s) (length b) z))
 
-  pub copied-read : length s ≤ length f → length s ≤ length b → (r : Read) (u : List ℕ) → outcome r u ≡ readEntry s 0 (length s) t → copied s t f b ≡ copiedBy s t f b r u
-  unfolding copied
-  copied-read h g r u e =
-      rw (le-leb (length s) (length f) h, le-leb (length s) (length b) g)
-      (sym (ap (λ (o : Outcome). copiedBy s t f b (o .answer) (o .table)) e))
+    -- a buffer too short
+    pub copied-short : copied s t f b ≡ stays (shortOf (countEntry s 0 (length s))) t f b
+    unfolding copied countEntry readEntry
+    copied-short = go (gated (length s) 0 (length s)) refl (readMessage s 0 (length s)) refl
+      where
+        go : (g : Gated) → gated (length s) 0 (length s) ≡ g → (m : Message) → readMessage s 0 (length s) ≡ m → copied s t f b ≡ stays (shortOf (countEntry s 0 (length s))) t f b
+        go (Shut r) x m y = rw x
+        go Open x (reading.Refused r p) y = rw (x, y, into-refused s 0 (length s) t r p y)
+        go Open x (Fields fs) y = rw (x, y) (fits (leb (length fs) (room t)) refl)
+          where
+            fits : (z : Bool) → leb (length fs) (room t) ≡ z → copiedBy s t f b (readInto s 0 (length s) t .answer) (readInto s 0 (length s) t .table) ≡ stays NoRoom t f b
+            fits true z = rw (into-fits s 0 (length s) t fs y (leb-true (length fs) (room t) z)) (accepted-short (length s) (length fs) (filled t fs))
+            fits false z = rw (into-no-room s 0 (length s) t fs y (leb-false (length fs) (room t) z))
 
 -- ---- what an entry that accepts, or refuses, left
 
@@ -127,7 +162,7 @@ module _ (s t f b : List ℕ) (bytes : Bytes s) (h : length s ≤ length f) (g :
   copy-refused r p n q =
       let w = same (read.Refused r p n) q in
       let z : u ≡ t = left-by s t bytes (read.Refused r p n) u w in
-      ap (λ (v : List ℕ). stays r v f b) z ∙ sym (copied-read s t f b h g (read.Refused r p n) u w)
+      ap (λ (v : List ℕ). stays r v f b) z ∙ sym (copied-read s t f b (read.Refused r p n) u w)
 
   pub copy-done : (end n : ℕ) → x ≡ read.Accepted end n → (w v : Writing) → w ≡ encodeMessage s u n f → v ≡ prependMessage s u n b
       → record { answer = copiedAs.Fields n; table = u; front = w .buf; back = v .buf } ≡ copied s t f b
@@ -136,4 +171,4 @@ module _ (s t f b : List ℕ) (bytes : Bytes s) (h : length s ≤ length f) (g :
       let p = left-by s t bytes (read.Accepted end n) u k in
       let y : w .buf ≡ s ++ drop (length s) f = ap (λ (o : Writing). o .buf) i ∙ front-back s u n p f h in
       let z : v .buf ≡ take (length b - length s) b ++ s = ap (λ (o : Writing). o .buf) j ∙ end-back s u n p b g in
-      rw (y, z) (sym (copied-read s t f b h g (read.Accepted end n) u k))
+      rw (y, z) (sym (copied-read s t f b (read.Accepted end n) u k ∙ rw (le-leb (length s) (length f) h, le-leb (length s) (length b) g)))

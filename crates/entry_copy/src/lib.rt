@@ -1,7 +1,10 @@
 // A message read whole into a table and written back from it, at the front of one buffer and at the end of another: that the bytes come back is what
 // the contract says.
 ghost use mathlib.Core.Path.{_≡_};
-ghost use Rattle.entry_copy.specs.Copy.{Copying, copied};
+ghost use lib.ListN.{length};
+ghost use Rattle.entry_reader.specs.Counting.{countEntry};
+ghost use Rattle.entry_copy.specs.Copy.{Copying, shortOf, copied};
+use entry_reader::Counted;
 use wire::Read;
 use wire::Refusal;
 
@@ -11,15 +14,25 @@ pub enum Copied {
     Refused(Refusal),
 }
 
-// A buffer that is shorter than the message is NoRoom before anything is read; then the reader's refusals. A refusal leaves all three as they were.
+// Why nothing is copied where a buffer is too short: the message's own refusal, or NoRoom.
+fn not_copied(s: &[u8]) -> Copied
+    ensures { λ r. ⌜ r ≡ Copied.Refused (shortOf (countEntry (now (s .entry)) 0 (length (now (s .entry))))) ⌝ }
+{
+    match entry_reader::count_fields(s, 0, s.len()) {
+        Counted::Refused(r) => Copied::Refused(r),
+        Counted::Fields(_) => Copied::Refused(Refusal::NoRoom),
+    }
+}
+
+// The reader's refusals come first, then NoRoom for a buffer that is shorter than the message. A refusal leaves all three as they were.
 pub fn copy_message(s: &[u8], table: &mut [u64], front: &mut [u8], back: &mut [u8]) -> Copied
     ensures { λ r. ⌜ record { answer = r; table = now (table .exit); front = now (front .exit); back = now (back .exit) } ≡ copied (now (s .entry)) (now (table .entry)) (now (front .entry)) (now (back .entry)) ⌝ }
 {
     if front.len() < s.len() {
-        return Copied::Refused(Refusal::NoRoom);
+        return not_copied(s);
     }
     if back.len() < s.len() {
-        return Copied::Refused(Refusal::NoRoom);
+        return not_copied(s);
     }
     match entry_message::read_message(s, 0, s.len(), table) {
         Read::Refused(r, _, _) => Copied::Refused(r),

@@ -1,16 +1,23 @@
 -- The buffers' room, the reader, then the two writers.
-use mathlib.Core.Path.{sym}
+use mathlib.Core.Path.{ap, _∙_, sym}
+use mathlib.Core.Logic.{inl, inr}
 use native.Mathlib.Omega.{arith}
-use Rattle.entry_copy.specs.Copy.{short-front, short-back, copy-refused, copy-done}
 use borrow.Author.Needs.{needs}
+use Rattle.entry_copy.specs.Copy.{copied-short, copy-refused, copy-done}
 use Rattle.entry_copy.proofs.copy_message.Statement.{statement}
 use Rattle.entry_copy.proofs.copy_message.Tie as tie
 
+not-copied-requires : tie.Need-not-copied-requires
+not-copied-requires c κs = search needs
+
 returns : tie.Need-returns
-returns c = sym (short-front _ _ _ _ (c .if1 .taken))
+returns c = rw (c .not-copied .ensures) (sym (copied-short _ _ _ _ (inl (c .before .if1 .taken))))
+
+not-copied-requires-2 : tie.Need-not-copied-requires-2
+not-copied-requires-2 c κs = search needs
 
 returns-2 : tie.Need-returns-2
-returns-2 c = sym (short-back _ _ _ _ (omega arith) (c .if2 .taken))
+returns-2 c = rw (c .not-copied2 .ensures) (sym (copied-short _ _ _ _ (inr (c .before .if2 .taken))))
 
 read-message-requires : tie.Need-read-message-requires
 read-message-requires c κs = search needs
@@ -32,8 +39,11 @@ same-length c = search needs
 
 returns-3 : tie.Need-returns-3
 returns-3 c =
-    let d = c .before .before .before .before .before in
-    copy-refused _ _ _ _ (λ i. omega (arith, c .before .before .before .before .before .before .before .before .before .before .before .before .shared-slice-known .given i)) (omega (arith, c .before .before .before .before .before .before .before .before .if1 .left)) (omega (arith, c .before .before .before .before .before .before .before .if2 .left)) _ _ (d .read-message .ensures) _ _ _ (c .before .r .given .1)
+    let read = c .before .before .before .before .before in
+    let room = read .before .before in
+    let lent = room .before .before .before .before .before in
+    copy-refused _ _ _ _ (λ i. omega (arith, lent .shared-slice-known .given i)) (omega (arith, room .before .if1 .left)) (omega (arith, room .if2 .left)) _ _
+    (read .read-message .ensures) _ _ _ (c .before .r .given .1)
 
 same-length-2 : tie.Need-same-length-2
 same-length-2 c = search needs
@@ -46,8 +56,31 @@ same-length-4 c = search needs
 
 returns-4 : tie.Need-returns-4
 returns-4 c =
-    let d = c .before .before .before .before .before .before .before .before .before .before .before .before .before .before .before in
-    copy-done _ _ _ _ (λ i. omega (arith, c .before .before .before .before .before .before .before .before .before .before .before .before .before .before .before .before .before .before .before .before .before .before .shared-slice-known .given i)) (omega (arith, c .before .before .before .before .before .before .before .before .before .before .before .before .before .before .before .before .before .before .if1 .left)) (omega (arith, c .before .before .before .before .before .before .before .before .before .before .before .before .before .before .before .before .before .if2 .left)) _ _ (d .read-message .ensures) _ _ (c .before .before .before .before .before .before .before .before .before .before .before .n .given .1) _ _ (c .before .before .before .before .before .before .before .encode-message .ensures) (c .before .before .prepend-message .ensures)
+    let ends = c .before .before in
+    let fronts = ends .before .before .before .before .before in
+    let found = fronts .before .before .before .before in
+    let read = found .before .before .before .before in
+    let room = read .before .before in
+    let lent = room .before .before .before .before .before in
+    copy-done _ _ _ _ (λ i. omega (arith, lent .shared-slice-known .given i)) (omega (arith, room .before .if1 .left)) (omega (arith, room .if2 .left)) _ _
+    (read .read-message .ensures) _ _ (found .n .given .1) _ _ (fronts .encode-message .ensures) (ends .prepend-message .ensures)
 
 pub copy-message-spec : {M : Type 1} → statement M
-copy-message-spec = tie.close (tie.spec returns returns-2 read-message-requires enum-known-r enum-known-n encode-message-requires prepend-message-requires same-length returns-3 same-length-2 same-length-3 same-length-4 returns-4)
+copy-message-spec =
+    tie.close
+    (tie.spec
+    not-copied-requires
+    returns
+    not-copied-requires-2
+    returns-2
+    read-message-requires
+    enum-known-r
+    enum-known-n
+    encode-message-requires
+    prepend-message-requires
+    same-length
+    returns-3
+    same-length-2
+    same-length-3
+    same-length-4
+    returns-4)
