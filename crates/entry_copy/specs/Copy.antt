@@ -5,7 +5,7 @@ use mathlib.Core.Bool.{Bool, true, false}
 use mathlib.Core.List.{List, _++_}
 use mathlib.Core.Logic.{_⊎_, inl, inr}
 use native.Mathlib.Omega.{arith}
-use borrow.Author.Tests.{le-leb, lt-leb, leb-true, leb-false}
+use borrow.Author.Tests.{le-leb, leb-true, leb-false}
 use lib.Dec.{leb}
 use lib.ListN.{length, take, drop}
 use Rattle.wire.specs.Choose.{choose}
@@ -95,12 +95,14 @@ module _ (s t f b : List ℕ) where
     unfolding copied countEntry readEntry
     copied-short = go (gated (length s) 0 (length s)) refl (readMessage s 0 (length s)) refl
       where
-        go : (g : Gated) → gated (length s) 0 (length s) ≡ g → (m : Message) → readMessage s 0 (length s) ≡ m → copied s t f b ≡ stays (shortOf (countEntry s 0 (length s))) t f b
+        go : (g : Gated) → gated (length s) 0 (length s) ≡ g → (m : Message) → readMessage s 0 (length s) ≡ m
+            → copied s t f b ≡ stays (shortOf (countEntry s 0 (length s))) t f b
         go (Shut r) x m y = rw x
         go Open x (reading.Refused r p) y = rw (x, y, into-refused s 0 (length s) t r p y)
         go Open x (Fields fs) y = rw (x, y) (fits (leb (length fs) (room t)) refl)
           where
-            fits : (z : Bool) → leb (length fs) (room t) ≡ z → copiedBy s t f b (readInto s 0 (length s) t .answer) (readInto s 0 (length s) t .table) ≡ stays NoRoom t f b
+            fits : (z : Bool) → leb (length fs) (room t) ≡ z → copiedBy s t f b (readInto s 0 (length s) t .answer) (readInto s 0 (length s) t .table)
+                ≡ stays NoRoom t f b
             fits true z = rw (into-fits s 0 (length s) t fs y (leb-true (length fs) (room t) z)) (accepted-short (length s) (length fs) (filled t fs))
             fits false z = rw (into-no-room s 0 (length s) t fs y (leb-false (length fs) (room t) z))
 
@@ -115,7 +117,8 @@ whole : (m : List ℕ) → part m 0 (length m) ≡ m
 whole m = let e : length m - 0 ≡ length m = omega arith in ap (λ (n : ℕ). take n m) e ∙ take-length m
 
 module _ (s t : List ℕ) (b : Bytes s) where
-  left-into : length s ≤ messageLimit → (o : Message) → readMessage s 0 (length s) ≡ o → Left s t (readInto s 0 (length s) t .answer) (readInto s 0 (length s) t .table)
+  left-into : length s ≤ messageLimit → (o : Message) → readMessage s 0 (length s) ≡ o
+      → Left s t (readInto s 0 (length s) t .answer) (readInto s 0 (length s) t .table)
   left-into h (reading.Refused r p) e = rw (into-refused s 0 (length s) t r p e) refl
   left-into h (Fields fs) e = go (leb (length fs) (room t)) refl
     where
@@ -154,7 +157,8 @@ module _ (s u : List ℕ) (n : ℕ) (p : plan messageLimit s u n ≡ Writes s) w
 
 -- ---- and copying is what it is said to be: of a read that refused, and of one that accepted and the two writers behind it
 
-module _ (s t f b : List ℕ) (bytes : Bytes s) (h : length s ≤ length f) (g : length s ≤ length b) (x : Read) (u : List ℕ) (e : outcome x u ≡ readEntry s 0 (length s) t) where
+module _ (s t f b : List ℕ) (bytes : Bytes s) (h : length s ≤ length f) (g : length s ≤ length b) (x : Read) (u : List ℕ)
+    (e : outcome x u ≡ readEntry s 0 (length s) t) where
   same : (y : Read) → x ≡ y → outcome y u ≡ readEntry s 0 (length s) t
   same y q = ap (λ (z : Read). outcome z u) (sym q) ∙ e
 

@@ -1,5 +1,5 @@
 -- The buffers' room, the reader, then the two writers.
-use mathlib.Core.Path.{ap, _∙_, sym}
+use mathlib.Core.Path.{sym}
 use mathlib.Core.Logic.{inl, inr}
 use native.Mathlib.Omega.{arith}
 use borrow.Author.Needs.{needs}
