@@ -7,6 +7,7 @@ use borrow.Fn.Kinds.{PK, RK, Out, Dens, resT, endedOf}
 use denote.Triple.Clauses.{AtExit}
 use denote.Ref.{now}
 use Rattle.wire.specs.declared.Read.{Read}
+use Rattle.wire.specs.declared.Record.{Record}
 use Rattle.entry_message.proofs.read_message.Kinds as kinds
 use Rattle.entry_message.proofs.read_message.Reads as reads
 
@@ -14,6 +15,10 @@ use Rattle.entry_message.proofs.read_message.Reads as reads
 -- outcome
 abbrev pub Every : (l : ℕ) (ps : List (PK l)) (r : RK l) → Out l ps r → ((κs : Lfts l) → Dens κs ps → resT r κs .Denot → AtExit (endedOf l ps r) κs → Type 0) → Type 0
 Every l ps r post said = (κs : Lfts l) (a : Dens κs ps) (x : resT r κs .Denot) (s : AtExit (endedOf l ps r) κs) → post κs a x s → said κs a x s
+
+-- a record as C passes it: four words
+abbrev pub fourWords : ℕ → ℕ → ℕ → ℕ → Record
+fourWords tag kind value length = record { tag = tag; kind = kind; value = value; length = length }
 
 pub record Call : Type 0 where
   pub lifetimes : Lfts 2

@@ -19,8 +19,8 @@ use Rattle.wire.specs.Places.{part}
 use Rattle.wire.specs.Table.{words, room, recordAt, fieldIn, fieldsFrom, good}
 use Rattle.write_record.specs.Records.{tagBefore, judge, Fine, AllFine, tested, checked}
 use Rattle.write_record.specs.RecordLaws.{judge-good, judge-fine, fine-at}
-use Rattle.write_insertion.specs.Insertion.{spot, Aim, Puts, Refuses, aim, Insertion, inserted, inserts}
-use Rattle.write_insertion.specs.InsertionLaws.{spot-inside, aim-puts, inserts-puts, inserts-refuses}
+use Rattle.write_insertion.specs.Insertion.{spot, aim, Insertion, inserted, inserts}
+use Rattle.write_insertion.specs.InsertionLaws.{spot-inside, aim-puts, inserts-puts}
 use Rattle.write_message.specs.WritingLaws.{checked-fine}
 use Rattle.wire.specs.declared.Record.{Record}
 use Rattle.wire.specs.declared.Inserted.the-variants.{Count}
@@ -277,11 +277,3 @@ module _ {s t : List ℕ} {c : ℕ} {r : Record} (w : Inserting s t c r) where
     good-again =
         ap (λ (o : Insertion). tested (suc c) (length s) (o .table)) placed
         ∙ stays-good (length s) t c r (checked-fine messageLimit s t c fine .1 .fine) g (omega arith)
-
-  -- a refusal leaves the table as it was
-  pub insertion-frame : (insertedTold (w .answer) .number ≡ 0 → ⊥) → left ≡ t
-  insertion-frame n = go (aim messageLimit s t c r) refl
-    where
-      go : (a : Aim) → aim messageLimit s t c r ≡ a → left ≡ t
-      go (Puts p) e = absurd (n (ap (λ (o : Insertion). insertedTold (o .answer) .number) (outcome ∙ sym (inserts-puts t c r p e refl))))
-      go (Refuses why i) e = ap (λ (o : Insertion). o .table) (outcome ∙ sym (inserts-refuses t c r why i e))

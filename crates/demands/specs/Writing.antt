@@ -3,10 +3,8 @@
 -- And the second, for writing: for every source, table, count and buffer, what is written is the list that the records stand for.
 use Prim.Native.Nat.{ℕ, _+_, _-_, _≤_}
 use mathlib.Core.Path.{_≡_, refl, ap, _∙_}
-use mathlib.Core.Bool.{Bool, true, false}
 use mathlib.Core.List.{List, _++_}
 use native.Mathlib.Omega.{arith}
-use lib.Dec.{leb}
 use lib.ListN.{length, take, drop}
 use contract.Lifetimes.{Lfts}
 use borrow.Fn.Kinds.{Dens, resT, endedOf}
@@ -21,14 +19,14 @@ use Rattle.demands.specs.Formats.{refused-format}
 use Rattle.wire.specs.Table.{room, filled}
 use Rattle.write_record.specs.Records.{AllFine, checked}
 use Rattle.write_record.specs.Records as records
-use Rattle.write_message.specs.Writing.{Plan, Writes, Refuses, plan, Writing, into, front, back}
+use Rattle.write_message.specs.Writing.{Writes, plan, Writing, front, back}
 use Rattle.write_message.specs.WritingLaws.{plan-fine, into-writes}
 use Rattle.write_message.specs.ReadBack.{table-plan}
 use Rattle.wire.specs.declared.Field.{Field}
 use Rattle.wire.specs.declared.Read.{Read}
 use Rattle.wire.specs.declared.Written.the-variants.{At}
 use Rattle.message_table.specs.Into.{Outcome, outcome, readInto, into-refused, into-fits}
-use Rattle.entry_answer.specs.Told.{readTold, writtenTold}
+use Rattle.entry_answer.specs.Told.{readTold}
 use Rattle.entry_message.specs.Messages.{entry-open}
 use Rattle.entry_write.proofs.encode_message.Kinds as encode
 use Rattle.entry_write.proofs.encode_message.Reads as encode-reads
@@ -134,29 +132,3 @@ module _ (c : Call) (w : Whole c) (z : readTold (answer c) .number ≡ 0) {b : L
 
   pub from-the-end : (e : Prepended (message c) (left c) (readTold (answer c) .count) b) → prepends e ≡ atEnd (message c) b
   from-the-end = prepended-as (planned c w z) fits
-
--- ---- THE FIRST DEMAND, FOR WRITING (rule R2): whatever the arguments, a refusal leaves the buffer as it was
-
-module _ (b : List ℕ) (done : List ℕ → Writing) (sure : (bs : List ℕ) → writtenTold (done bs .answer) .number ≡ 0) where
-  into-frame : (p : Plan) → (writtenTold (into b p done .answer) .number ≡ 0 → ⊥) → into b p done .buf ≡ b
-  into-frame (Writes bs) n = go (leb (length bs) (length b)) refl
-    where
-      go : (x : Bool) → leb (length bs) (length b) ≡ x → into b (Writes bs) done .buf ≡ b
-      go true x = absurd (n (rw x (sure bs)))
-      go false x = rw x
-  into-frame (Refuses r i) n = refl
-
-module _ {s t : List ℕ} {c : ℕ} {b : List ℕ} where
-  pub encode-frame : (w : Encoded s t c b) → (writtenTold (w .answer) .number ≡ 0 → ⊥) → encodes w .buf ≡ b
-  unfolding front
-  encode-frame w n =
-      let e : encodes w ≡ into b (plan messageLimit s t c) (λ (bs : List ℕ). atFront bs b) = w .allowed ∙ rw (w .source, w .records, w .count, w .buffer) refl in
-      ap (λ (o : Writing). o .buf) e
-      ∙ into-frame b (λ (bs : List ℕ). atFront bs b) (λ bs. refl) (plan messageLimit s t c) (λ z. n (ap (λ (o : Writing). writtenTold (o .answer) .number) e ∙ z))
-
-  pub prepend-frame : (w : Prepended s t c b) → (writtenTold (w .answer) .number ≡ 0 → ⊥) → prepends w .buf ≡ b
-  unfolding back
-  prepend-frame w n =
-      let e : prepends w ≡ into b (plan messageLimit s t c) (λ (bs : List ℕ). atEnd bs b) = w .allowed ∙ rw (w .source, w .records, w .count, w .buffer) refl in
-      ap (λ (o : Writing). o .buf) e
-      ∙ into-frame b (λ (bs : List ℕ). atEnd bs b) (λ bs. refl) (plan messageLimit s t c) (λ z. n (ap (λ (o : Writing). writtenTold (o .answer) .number) e ∙ z))
