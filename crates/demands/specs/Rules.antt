@@ -1,5 +1,4 @@
--- Which refusals each entry has, in their order: order R of the readers (rule R3), order T of the writers, of measuring and of insertion (rule R6).
--- A number stands beside each refusal (rule R1).
+-- Which refusals each entry has, in their order: order R of the readers, order T of the writers, of measuring and of insertion.
 use Prim.Native.Nat.{ℕ, zero, suc, _+_, _-_, _/_, _^_}
 use mathlib.Core.Bool.{Bool, true, false, not}
 use mathlib.Core.List.{List, [], _∷_, _++_}
@@ -209,6 +208,14 @@ tableRules s a e t = when (ltb (room t) (length (fieldsIn s a e))) NoRoom ∷ []
 abbrev pub readMessageOrder : List ℕ → ℕ → ℕ → List ℕ → List Rule
 readMessageOrder s a e t = orderR s a e (messageRules s a e ++ tableRules s a e t)
 
+-- counted: the message's alone
+abbrev pub countFieldsOrder : List ℕ → ℕ → ℕ → List Rule
+countFieldsOrder s a e = orderR s a e (messageRules s a e)
+
+-- copied: 5, behind all of the reader's, for a buffer that is shorter than the message
+abbrev pub copyMessageOrder : List ℕ → List ℕ → List ℕ → List ℕ → List Rule
+copyMessageOrder s t f b = readMessageOrder s 0 (length s) t ++ (roomRules f s ++ roomRules b s)
+
 abbrev pub readPayloadOrder : List ℕ → Record → List ℕ → List Rule
 readPayloadOrder m r t = let p = payload m r in readMessageOrder p 0 (length p) t
 
@@ -249,3 +256,8 @@ newRules s t c r = when (not (good (length s) r)) BadRecord ∷ when (eqb c (roo
 
 abbrev pub insertOrder : List ℕ → List ℕ → ℕ → Record → List Rule
 insertOrder s t c r = orderT s t c (newRules s t c r)
+
+-- ---- for C: 6 for a wire type above 3, before all else
+
+abbrev pub typedOrder : ℕ → (WireType → List Rule) → List Rule
+typedOrder kind rules = when (ltb 3 kind) BadRecord ∷ rules (wireOf kind)
