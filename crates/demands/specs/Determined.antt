@@ -8,6 +8,7 @@ pub use Rattle.wire.proofs.Only.{number-of-one as wire-number-of-one}
 pub use Rattle.place.proofs.Only.{put-part-one as place-put-part-one}
 pub use Rattle.place.proofs.Only.{put-fixed-one as place-put-fixed-one}
 -- varints
+pub use Rattle.varint_write.proofs.Only.{varint-limit-one as varint-varint-limit-one}
 pub use Rattle.varint_write.proofs.Only.{encoded-len-varint-one as varint-encoded-len-varint-one}
 pub use Rattle.varint_read.proofs.Only.{decode-varint-one as varint-read-decode-varint-one}
 pub use Rattle.varint_read.proofs.Only.{decode-varint-capped-one as varint-read-decode-varint-capped-one}
