@@ -42,7 +42,8 @@ pub record Third (m t t′ : List ℕ) (r : Read) : Type 0 where
   pub refusal : (readTold r .number ≡ 0 → ⊥) → (1 ≤ readTold r .number) × (readTold r .number ≤ 3) × (t′ ≡ t)
   -- accepted: the whole message was read, and the list in the table is meant
   pub place : readTold r .number ≡ 0 → readTold r .place ≡ length m
-  pub count : readTold r .number ≡ 0 → length (itemsIn m (readTold r .count) t′) ≡ readTold r .count
+  -- the count is the length of every list that is meant
+  pub count : readTold r .number ≡ 0 → (is : List Item) → Meant m is → length is ≡ readTold r .count
   pub list : readTold r .number ≡ 0 → Meant m (itemsIn m (readTold r .count) t′)
   -- and no other is
   pub only : readTold r .number ≡ 0 → (is : List Item) → Meant m is → is ≡ itemsIn m (readTold r .count) t′
@@ -80,7 +81,7 @@ module _ (m t : List ℕ) (b : Bytes m) where
         none-refused = λ n z. n (items m fs) (to-meant m (items m fs) w);
         refusal = λ n. absurd (n refl);
         place = λ z. refl;
-        count = λ z. rw back (length-items m fs);
+        count = λ z is v. ap length (unique m 0 (length m) (omega arith) (omega arith) is (items m fs) (to-written m is v) w) ∙ length-items m fs;
         list = λ z. rw back (to-meant m (items m fs) w);
         only = λ z is v. rw back (unique m 0 (length m) (omega arith) (omega arith) is (items m fs) (to-written m is v) w);
       }
@@ -93,7 +94,7 @@ module _ (m t : List ℕ) (b : Bytes m) where
         none-refused = λ n z. absurd (omega (arith, f .0));
         refusal = λ n. (f .0, f .1, refl);
         place = λ z. absurd (omega (arith, f .0));
-        count = λ z. absurd (omega (arith, f .0));
+        count = λ z is v. absurd (omega (arith, f .0));
         list = λ z. absurd (omega (arith, f .0));
         only = λ z is v. absurd (omega (arith, f .0));
       }
