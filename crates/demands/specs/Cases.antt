@@ -1,6 +1,5 @@
--- The cases of FORMAT.md that are marked P, over every outcome that the contracts of the entries allow: varints put, measured and read, messages
--- read, fields skipped.
-use Prim.Native.Nat.{ℕ, _-_, _≤_}
+-- The paper's cases, over every outcome that the contracts of the entries allow: varints put, measured and read, messages read, fields skipped.
+use Prim.Native.Nat.{ℕ, _-_, _*_, _≤_}
 use mathlib.Core.Path.{_≡_, refl, ap, _∙_}
 use mathlib.Core.Bool.{Bool, true, false}
 use mathlib.Core.List.{List, [], _∷_, _++_}
@@ -10,7 +9,7 @@ use lib.Dec.{leb}
 use lib.ListN.{length, take, drop}
 use denote.Ref.{now}
 use Rattle.wire.specs.Choose.{choose}
-use Rattle.wire.specs.Limits.{messageLimit}
+use Rattle.wire.specs.Limits.{messageLimit, recordWords}
 use Rattle.wire.specs.Numbers.{numberOf}
 use Rattle.wire.specs.Varint.{encode}
 use Rattle.wire.specs.Reading.{varintAt, Message, Fields, readMessage}
@@ -20,7 +19,7 @@ use Rattle.wire.specs.declared.WireType.{WireType}
 use Rattle.wire.specs.declared.VarintFound.{VarintFound}
 use Rattle.wire.specs.declared.VarintFound.the-variants as varintFound
 use Rattle.wire.specs.declared.Reached.{Reached}
-use Rattle.wire.specs.Table.{room}
+use Rattle.wire.specs.Table.{room, records}
 use Rattle.wire.specs.Cases.{Case, Encodes, Varint, Reads, Skips, Right, All, cases}
 use Rattle.wire.specs.Cases as format
 use Rattle.message_table.specs.Into.{Outcome, readInto, into-refused, into-fits}
@@ -42,12 +41,17 @@ use Rattle.entry_varint.proofs.decode_varint.Kinds as decode-varint
 use Rattle.entry_varint.proofs.decode_varint.Reads as decode-varint-reads
 use Rattle.entry_field.proofs.skip_field.Kinds as skip-field
 use Rattle.entry_field.proofs.skip_field.Reads as skip-field-reads
-use Rattle.demands.specs.Calls.{Every, Call, message, start, end, table, answer}
+use Rattle.demands.specs.Calls.{Every, Call, message, start, end, table, answer, left}
 
 -- what is told of a message that is read up to e
 abbrev pub told : ℕ → Message → Answer
 told e (Fields fs) = record { number = 0; place = e; count = length fs }
 told e (reading.Refused r p) = record { number = numberOf r; place = p; count = 0 }
+
+-- and what a table t then holds: the records of the fields, in words, and every other word as it was
+abbrev pub holding : List ℕ → Message → List ℕ
+holding t (Fields fs) = records fs ++ drop (recordWords * length fs) t
+holding t (reading.Refused r p) = t
 
 abbrev pub needed : Message → ℕ
 needed (Fields fs) = length fs
@@ -56,14 +60,17 @@ needed (reading.Refused r p) = 0
 -- a number's bytes: at the front of a buffer that has room for them, and at its end, with all other bytes as they were; and how many they are
 pub record Encoded (v : ℕ) (bs : List ℕ) : Type 0 where
   pub at-front : Every 1 encode-varint.ps encode-varint.r encode-varint-reads.Post
-      (λ κs a x s. a .0 ≡ v → length bs ≤ length (now (a .1 .0)) → (putTold x ≡ record { number = 0; value = length bs }) × (now (s .1 .0) ≡ bs ++ drop (length bs) (now (a .1 .0))))
+      (λ κs a x s. a .0 ≡ v → length bs ≤ length (now (a .1 .0))
+      → (putTold x ≡ record { number = 0; value = length bs }) × (now (s .1 .0) ≡ bs ++ drop (length bs) (now (a .1 .0))))
   pub at-end : Every 1 prepend-varint.ps prepend-varint.r prepend-varint-reads.Post
-      (λ κs a x s. a .0 ≡ v → length bs ≤ length (now (a .1 .0)) → (putTold x ≡ record { number = 0; value = length bs }) × (now (s .1 .0) ≡ take (length (now (a .1 .0)) - length bs) (now (a .1 .0)) ++ bs))
+      (λ κs a x s. a .0 ≡ v → length bs ≤ length (now (a .1 .0))
+      → (putTold x ≡ record { number = 0; value = length bs }) × (now (s .1 .0) ≡ take (length (now (a .1 .0)) - length bs) (now (a .1 .0)) ++ bs))
   pub measured : Every 0 encoded-len-varint.ps encoded-len-varint.r encoded-len-varint-reads.Post (λ κs a x s. a .0 ≡ v → x ≡ length bs)
 
 -- bytes read as a varint from their first place
 abbrev pub ReadsVarint : List ℕ → VarintFound → Type 0
-ReadsVarint bs found = Every 1 decode-varint.ps decode-varint.r decode-varint-reads.Post (λ κs a x s. now (a .0) ≡ bs → a .1 .0 ≡ 0 → varintTold x ≡ varintTold (varintRead 0 found))
+ReadsVarint bs found = Every 1 decode-varint.ps decode-varint.r decode-varint-reads.Post
+    (λ κs a x s. now (a .0) ≡ bs → a .1 .0 ≡ 0 → varintTold x ≡ varintTold (varintRead 0 found))
 
 -- bytes skipped from a place, up to an end
 abbrev pub Skipped : List ℕ → ℕ → ℕ → WireType → Reached → Type 0
@@ -71,18 +78,20 @@ Skipped bs at e w to =
     Every 1 skip-field.ps skip-field.r skip-field-reads.Post
     (λ κs a x s. now (a .0) ≡ bs → a .1 .0 ≡ at → a .1 .1 .0 ≡ e → a .1 .1 .1 .0 ≡ w → skippedTold x ≡ skippedTold (skipAnswer at to))
 
--- a call with a case's bytes, start and end, and room for its fields, tells what the case says
+-- a call with a case's bytes, start and end, and room for its fields, tells what the case says, and leaves the fields in the table
 abbrev pub Tells : Case → Type 0
 Tells (Encodes v bs) = Encoded v bs × ReadsVarint bs (varintFound.Got v (length bs))
 Tells (Varint bs found) = ReadsVarint bs found
-Tells (Reads bs a e m) = (c : Call) → message c ≡ bs → start c ≡ a → end c ≡ e → needed m ≤ room (table c) → readTold (answer c) ≡ told e m
+Tells (Reads bs a e m) = (c : Call) → message c ≡ bs → start c ≡ a → end c ≡ e → needed m ≤ room (table c)
+    → (readTold (answer c) ≡ told e m) × (left c ≡ holding (table c) m)
 Tells (Skips bs e at w to) = Skipped bs at e w to
 
 -- ---- the proof
 
-told-into : (s : List ℕ) (a e : ℕ) (t : List ℕ) (m : Message) → readMessage s a e ≡ m → needed m ≤ room t → readTold (readInto s a e t .answer) ≡ told e m
-told-into s a e t (Fields fs) h g = rw (into-fits s a e t fs h g)
-told-into s a e t (reading.Refused r p) h g = rw (into-refused s a e t r p h)
+told-into : (s : List ℕ) (a e : ℕ) (t : List ℕ) (m : Message) → readMessage s a e ≡ m → needed m ≤ room t
+    → (readTold (readInto s a e t .answer) ≡ told e m) × (readInto s a e t .table ≡ holding t m)
+told-into s a e t (Fields fs) h g = rw (into-fits s a e t fs h g) (refl, refl)
+told-into s a e t (reading.Refused r p) h g = rw (into-refused s a e t r p h) (refl, refl)
 
 -- a case lies inside the limit and its slice: computed for all of them at once
 abbrev within : List ℕ → ℕ → ℕ → Bool
@@ -155,7 +164,9 @@ tells (Reads bs a e m) w i =
     λ c p q r g.
     let t = table c in
     let z = ap (λ (s : List ℕ). readEntry s (start c) (end c) t) p ∙ ap (λ (j : ℕ). readEntry bs j (end c) t) q ∙ ap (λ (j : ℕ). readEntry bs a j t) r in
-    ap (λ (o : Outcome). readTold (o .answer)) (c .allowed ∙ z ∙ through-open _ _ (open-gate bs a e i)) ∙ told-into bs a e t m w g
+    let o = c .allowed ∙ z ∙ through-open _ _ (open-gate bs a e i) in
+    let y = told-into bs a e t m w g in
+    (ap (λ (o : Outcome). readTold (o .answer)) o ∙ y .0, ap (λ (o : Outcome). o .table) o ∙ y .1)
 tells (Skips bs e at w to) h i = skips bs at e w to h i
 
 tell : (cs : List Case) → All Right cs → every cs ≡ true → All Tells cs
