@@ -2,13 +2,17 @@ pub mod Calls
 pub mod Reading
 pub mod Writing
 pub mod Inserting
+pub mod Lengths
 pub mod Refusals
 pub mod Order
 pub mod Rules
 pub mod RulesLaws
+pub mod Entries
 pub mod Verdicts
 pub mod SoundingRules
 pub mod SoundingVerdict
+pub mod VerdictsC
+pub mod AllOnesAlone
 pub mod Cases
 pub mod Determined
 pub mod Early
