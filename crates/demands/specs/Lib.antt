@@ -4,6 +4,7 @@ pub mod Writing
 pub mod Inserting
 pub mod Lengths
 pub mod Refusals
+pub mod Cores
 pub mod Order
 pub mod Rules
 pub mod RulesLaws

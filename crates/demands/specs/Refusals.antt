@@ -134,10 +134,10 @@ InAll s t f b o =
 
 -- ---- THE LAW: what is as it was, and elements put in the place of as many
 
-kept : (n from to : ℕ) (b : List ℕ) → Framed n from to b b
+pub kept : (n from to : ℕ) (b : List ℕ) → Framed n from to b b
 kept n from to b = record { refused = λ z. refl; before = λ z. refl; behind = λ z. refl; same = refl }
 
-put : (p q : ℕ) (b xs : List ℕ) → p + length xs ≡ q → q ≤ length b → Framed 0 p q b (take p b ++ xs ++ drop q b)
+pub put : (p q : ℕ) (b xs : List ℕ) → p + length xs ≡ q → q ≤ length b → Framed 0 p q b (take p b ++ xs ++ drop q b)
 put p q b xs e h =
     let l : length (take p b) ≡ p = simp length-take (omega arith) in
     let m : length (take p b ++ xs) ≡ q = simp length-append (omega arith) in
@@ -213,7 +213,7 @@ typed-end b f h (Is w) = h w
 typed-end b f h Unknown = kept _ _ _ b
 
 module _ (s : List ℕ) (a e : ℕ) (t : List ℕ) where
-  into-table : (m : Message) → readMessage s a e ≡ m → InTable t (outcomeTold (readInto s a e t))
+  pub into-table : (m : Message) → readMessage s a e ≡ m → InTable t (outcomeTold (readInto s a e t))
   into-table (reading.Refused r p) h = rw (into-refused s a e t r p h) (kept _ _ _ t)
   into-table (Fields fs) h = go (leb (length fs) (room t)) refl
     where
@@ -245,19 +245,19 @@ module _ (b : List ℕ) where
       go true x = rw x (h bs (leb-true (length bs) (length b) x))
       go false x = rw x (kept _ _ _ b)
 
-  front-buffer : (p : Plan) → InBuffer b (writingTold (front b p))
+  pub front-buffer : (p : Plan) → InBuffer b (writingTold (front b p))
   unfolding front
   front-buffer = into-buffer _ (λ bs h. let z : 0 + length bs ≡ length bs = omega arith in rw z (put-front b bs (length bs) refl h))
 
-  back-buffer : (p : Plan) → InBuffer b (writingTold (back b p))
+  pub back-buffer : (p : Plan) → InBuffer b (writingTold (back b p))
   unfolding back
   back-buffer = into-buffer _ (λ bs h. put-end b bs _ _ refl (omega arith) h)
 
-insert-among : (s t : List ℕ) (c : ℕ) (r : Record) → Among t c r (insertionTold (inserts t c r (aim messageLimit s t c r)))
+pub insert-among : (most : ℕ) (s t : List ℕ) (c : ℕ) (r : Record) → Among t c r (insertionTold (inserts t c r (aim most s t c r)))
 unfolding inserts aim
-insert-among s t c r = go (checked messageLimit s t c) refl
+insert-among most s t c r = go (checked most s t c) refl
   where
-    go : (v : Verdict) → checked messageLimit s t c ≡ v → Among t c r (insertionTold (inserts t c r (aimed (length s) t c r v)))
+    go : (v : Verdict) → checked most s t c ≡ v → Among t c r (insertionTold (inserts t c r (aimed (length s) t c r v)))
     go (First why i) e = kept _ _ _ t
     go AllFine e = fits (good (length s) r) refl (eqb c (room t)) refl
       where
@@ -267,7 +267,7 @@ insert-among s t c r = go (checked messageLimit s t c) refl
         fits true x true y = rw (x, y) (kept _ _ _ t)
         fits true x false y =
             let i = spot-inside c t (r .tag) in
-            let k = checked-fine messageLimit s t c e .1 .count in
+            let k = checked-fine most s t c e .1 .count in
             let f : c < room t = below c (room t) k (eqb-false c (room t) y) in
             let l = length-part t (recordWords * spot c t (r .tag)) (recordWords * c - recordWords * spot c t (r .tag)) (omega arith) in
             rw (x, y)
@@ -356,7 +356,7 @@ insert-frame κs a x s p =
     let t = now (a .1 .0) in
     let c = a .1 .1 .0 in
     let r = a .1 .1 .1 .0 in
-    subst (Among t c r) (sym (ap insertionTold p)) (insert-among (now (a .0)) t c r)
+    subst (Among t c r) (sym (ap insertionTold p)) (insert-among messageLimit (now (a .0)) t c r)
 
 pub read-sounding-frame : Every 2 read-sounding.ps read-sounding.r read-sounding-reads.Post
     (λ κs a x s. InLevels (now (a .1 .0)) (record { told = soundingTold x; lent = now (s .1 .0) }))
@@ -424,7 +424,7 @@ c-insert-frame κs a x s p =
     let t = now (a .1 .0) in
     let c = a .1 .1 .0 in
     let r = fourWords (a .1 .1 .1 .0) (a .1 .1 .1 .1 .0) (a .1 .1 .1 .1 .1 .0) (a .1 .1 .1 .1 .1 .1 .0) in
-    subst (Among t c r) (sym p) (insert-among (now (a .0)) t c r)
+    subst (Among t c r) (sym p) (insert-among messageLimit (now (a .0)) t c r)
 
 pub c-read-sounding-frame : Every 2 c-read-sounding.ps c-read-sounding.r c-read-sounding-reads.Post
     (λ κs a x s. InLevels (now (a .1 .0)) (record { told = asSounding x; lent = now (s .1 .0) }))
