@@ -1,9 +1,10 @@
--- Tables: fields as records of four words, room, and which records are good (rules T1 to T4).
-use Prim.Native.Nat.{ℕ, zero, suc, _+_, _*_, _/_, _^_}
+-- Tables: a record is four words, its tag, its wire type, its value or the payload's start in the slice, and its byte length.
+use Prim.Native.Nat.{ℕ, zero, suc, _+_, _*_, _/_, _^_, _≤_}
 use mathlib.Core.Path.{_≡_, refl, ap, _∙_}
-use mathlib.Core.Bool.{Bool, false}
+use mathlib.Core.Bool.{Bool, true, false}
 use mathlib.Core.List.{List, [], _∷_, _++_}
 use native.Mathlib.Omega.{arith}
+use borrow.Author.Tests.{leb-true}
 use lib.Dec.{ltb, leb, eqb}
 use lib.ListN.{length, drop, getD}
 use Rattle.wire.specs.Choose.{choose}
@@ -89,6 +90,11 @@ goodValue n (suc zero) v l = leb (v + l) n
 goodValue n (suc (suc zero)) v l = choose (eqb l 4) (ltb v (2 ^ 32)) false
 goodValue n (suc (suc (suc zero))) v l = eqb l 8
 goodValue n (suc (suc (suc (suc k)))) v l = false
+
+-- a good payload lies inside the source, and no sum wraps
+pub payload-inside : (n v l : ℕ) → goodValue n 1 v l ≡ true → v + l ≤ n
+unfolding goodValue
+payload-inside n v l e = leb-true (v + l) n e
 
 unfoldable pub good : ℕ → Record → Bool
 good n r = choose (ltb (r .tag) (2 ^ 32)) (goodValue n (r .kind) (r .value) (r .length)) false
