@@ -26,7 +26,7 @@ use Rattle.sounding.specs.Told as soundings
 use Rattle.sounding.specs.Told.{soundingTold}
 use Rattle.sounding_value.specs.declared.NumberFound.{NumberFound}
 use Rattle.sounding_value.specs.declared.NumberFound.the-variants as numberFound
-use Rattle.capgauze_c.specs.Words.{Lent}
+use Rattle.c_words.specs.Words.{Lent}
 use Rattle.demands.specs.Calls.{Every}
 use Rattle.sounding.proofs.read_sounding.Kinds as read-sounding
 use Rattle.sounding.proofs.read_sounding.Reads as read-sounding-reads

@@ -1,4 +1,5 @@
--- The paper's cases, over every outcome that the contracts of the entries allow: varints put, measured and read, messages read, fields skipped.
+-- The cases of FORMAT.md that are marked P, over every outcome that the contracts of the entries allow: varints put, measured and read, messages
+-- read, fields skipped.
 use Prim.Native.Nat.{ℕ, _-_, _*_, _≤_}
 use mathlib.Core.Path.{_≡_, refl, ap, _∙_}
 use mathlib.Core.Bool.{Bool, true, false}

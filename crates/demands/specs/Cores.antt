@@ -18,7 +18,7 @@ use Rattle.wire.specs.Reading.{readMessage}
 use Rattle.place.specs.Place.{Placed, putAt, prependAt, putPart}
 use Rattle.write_message.specs.Writing.{plan}
 use Rattle.entry_answer.specs.Told.{readTold, writtenTold, insertedTold}
-use Rattle.capgauze_c.specs.Words.{outcomeTold, writingTold, insertionTold}
+use Rattle.c_words.specs.Words.{outcomeTold, writingTold, insertionTold}
 use Rattle.demands.specs.Calls.{Every}
 use Rattle.demands.specs.Refusals.{Framed, InTable, InBuffer, Among, kept, put, into-table, front-buffer, back-buffer, insert-among}
 use Rattle.place.proofs.put_part.Kinds as put-part

@@ -1,5 +1,5 @@
--- The first demand, on memory that is lent: a refusal changes nothing, and what is accepted changes nothing outside the part that it writes. One law, and a
--- line for every entry that is lent something to write to, and for every export to C. Over every outcome that the contracts allow.
+-- The first demand, on memory that is lent: a refusal changes nothing (rule R2), and what is accepted changes nothing outside the part that it writes (rule
+-- T4). One law, and a line for every entry that is lent something to write to, and for every export to C. Over every outcome that the contracts allow.
 use Prim.Native.Nat.{ℕ, _+_, _-_, _*_, _≤_, _<_}
 use mathlib.Core.Path.{_≡_, refl, sym, ap, _∙_, subst}
 use mathlib.Core.Bool.{Bool, true, false}
@@ -43,10 +43,10 @@ use Rattle.sounding.specs.Told as soundings
 use Rattle.sounding.specs.Told.{soundingTold}
 use Rattle.sounding.proofs.Levels.{length-words}
 use Rattle.sounding_value.specs.Values.{entered}
-use Rattle.capgauze_c.specs.Words.{Lent, asNumber, asRead, asWritten, asSounding, storedTold, outcomeTold, writingTold, insertionTold, levelsTold, typedOf}
-use Rattle.capgauze_c.specs.Words.{keyStored}
-use Rattle.capgauze_c.specs.declared.Typed.{Typed}
-use Rattle.capgauze_c.specs.declared.Typed.the-variants.{Is, Unknown}
+use Rattle.c_words.specs.Words.{Lent, asNumber, asRead, asWritten, asSounding, storedTold, outcomeTold, writingTold, insertionTold, levelsTold, typedOf}
+use Rattle.c_words.specs.Words.{keyStored}
+use Rattle.c_words.specs.declared.Typed.{Typed}
+use Rattle.c_words.specs.declared.Typed.the-variants.{Is, Unknown}
 use Rattle.demands.specs.Calls.{Every, fourWords}
 use Rattle.entry_varint.proofs.encode_varint.Kinds as encode-varint
 use Rattle.entry_varint.proofs.encode_varint.Reads as encode-varint-reads

@@ -1,4 +1,5 @@
--- Which refusals each entry has, in their order: order R of the readers, order T of the writers, of measuring and of insertion.
+-- Which refusals each entry has, in their order: order R of the readers (rule R3), order T of the writers, of measuring and of insertion
+-- (rule R6).
 use Prim.Native.Nat.{ℕ, zero, suc, _+_, _-_, _/_, _^_}
 use mathlib.Core.Bool.{Bool, true, false, not}
 use mathlib.Core.List.{List, [], _∷_, _++_}

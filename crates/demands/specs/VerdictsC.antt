@@ -18,9 +18,9 @@ use Rattle.entry_key.specs.Keys.{keyAtFront, keyAtEnd}
 use Rattle.entry_field.specs.Fields.{decodeValue, skipField}
 use Rattle.sounding.specs.Told as soundings
 use Rattle.sounding.specs.Words.{outcome, readSounding}
-use Rattle.capgauze_c.specs.Words.{Lent, typedOf, keyStored, valueTyped, placeTyped, typed-above}
-use Rattle.capgauze_c.specs.declared.Typed.{Typed}
-use Rattle.capgauze_c.specs.declared.Typed.the-variants.{Is, Unknown}
+use Rattle.c_words.specs.Words.{Lent, typedOf, keyStored, valueTyped, placeTyped, typed-above}
+use Rattle.c_words.specs.declared.Typed.{Typed}
+use Rattle.c_words.specs.declared.Typed.the-variants.{Is, Unknown}
 use Rattle.demands.specs.Calls.{fourWords}
 use Rattle.demands.specs.Order.{Rule, firstOf, Ordered, Numbered}
 use Rattle.demands.specs.Rules.{decodeVarintOrder, decodeVarintCappedOrder, decodeKeyOrder, decodeValueOrder, skipFieldOrder, stepAtOrder}

@@ -100,13 +100,13 @@ stepTold at last (step.Field f q) =
 stepTold at last step.End = record { number = 0; found = 0; tag = last; type = 0; value = 0; length = 0; place = at }
 stepTold at last (step.Refused r p t) = record { number = numberOf r; found = 0; tag = t; type = 0; value = 0; length = 0; place = p }
 
--- whether there is more: 1 before the end, 0 at it
+-- Rule M9: whether there is more: 1 before the end, 0 at it
 abbrev pub moreTold : More → Number
 moreTold more.Yes = record { number = 0; value = 1 }
 moreTold more.No = record { number = 0; value = 0 }
 moreTold (more.Refused r) = record { number = numberOf r; value = 0 }
 
--- a message: the place and the count
+-- Rule R4: a message: the place and the count
 pub record Message : Type 0 where
   pub number : ℕ
   pub place : ℕ

@@ -67,7 +67,7 @@ abbrev pub shortOf : Counted → Refusal
 shortOf (countedAs.Fields n) = NoRoom
 shortOf (countedAs.Refused r) = r
 
--- the paper's number and value for each case
+-- number (rule R1) and value for each case
 abbrev pub copiedTold : Copied → Number
 copiedTold (copiedAs.Fields n) = record { number = 0; value = n }
 copiedTold (copiedAs.Refused r) = record { number = numberOf r; value = 0 }

@@ -25,12 +25,12 @@ abbrev pub counted : Message → Counted
 counted (Fields fs) = countedAs.Fields (length fs)
 counted (reading.Refused r p) = countedAs.Refused r
 
--- the paper's number and value for each case
+-- number (rule R1) and value for each case
 abbrev pub countedTold : Counted → Number
 countedTold (countedAs.Fields n) = record { number = 0; value = n }
 countedTold (countedAs.Refused r) = record { number = numberOf r; value = 0 }
 
--- TooLong and BadCap come first
+-- Rule R3: TooLong and BadCap come first
 unfoldable pub countEntry : List ℕ → ℕ → ℕ → Counted
 countEntry s start e = through (gated (length s) start e) countedAs.Refused (counted (readMessage s start e))
 

@@ -1,4 +1,4 @@
--- Tables: a record is four words, its tag, its wire type, its value or the payload's start in the slice, and its byte length.
+-- Tables: fields as records of four words, room, and which records are good (rules T1 to T4).
 use Prim.Native.Nat.{ℕ, zero, suc, _+_, _*_, _/_, _^_, _≤_}
 use mathlib.Core.Path.{_≡_, refl, ap, _∙_}
 use mathlib.Core.Bool.{Bool, true, false}
