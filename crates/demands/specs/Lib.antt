@@ -1,3 +1,4 @@
+pub mod Demands
 pub mod Calls
 pub mod Reading
 pub mod Writing

@@ -1,0 +1,63 @@
+-- WHAT WAS PROMISED, in one place. Each demand stands in our own words, and behind it the theorems that make it up, by name. A theorem here speaks of every
+-- outcome that a contract allows, so of the programs and not of the definitions alone. What the definitions mean: docs/FORMAT.md, rule by rule.
+
+-- ---- TWO SENTENCES FOR A FORECASTER
+
+-- A missing value is never a number: where a level misses its temperature or its depression, sent as all ones or not at all, the table has 0 and all ones
+-- in its place; and a number is in the table exactly if it was sent. 255 comes out for a depression exactly if 255 was sent.
+pub use Rattle.sounding.proofs.Only.{accepted-tells, out-of-range-why}
+pub use Rattle.sounding.specs.Promises.{Told, missing-stays-missing, only-if-sent, if-sent, only-if-255, if-255}
+pub use Rattle.demands.specs.AllOnesAlone.{all-ones-outcome, c-all-ones-outcome}
+
+-- A refusal leaves everything as it was: the words and bytes that were lent hold what they held. And what is accepted changes nothing outside its part.
+pub use Rattle.demands.specs.Refusals.{Framed, encode-varint-frame, prepend-varint-frame, encode-key-frame, prepend-key-frame}
+pub use Rattle.demands.specs.Refusals.{read-message-frame, read-payload-frame, encode-message-frame, prepend-message-frame, insert-frame}
+pub use Rattle.demands.specs.Refusals.{read-sounding-frame, copy-message-frame}
+pub use Rattle.demands.specs.Refusals.{c-encode-varint-frame, c-prepend-varint-frame, c-encode-key-frame, c-prepend-key-frame}
+pub use Rattle.demands.specs.Refusals.{c-read-message-frame, c-read-payload-frame, c-encode-message-frame, c-prepend-message-frame}
+pub use Rattle.demands.specs.Refusals.{c-insert-frame, c-read-sounding-frame}
+
+-- ---- THE FIRST DEMAND: every entry takes every input and ends, and bad bytes, caps or tables get a numbered refusal
+
+-- That it ends, and asks nothing of its caller, is in the contract of each function: no public one has a `requires`. Any two outcomes are equal
+-- (Determined). Which number is told, exactly: that of the first condition of the entry's order that holds, and 0 exactly if none does.
+pub use Rattle.demands.specs.Order.{Numbered, Ordered}
+pub use Rattle.demands.specs.Verdicts.{decode-varint-number, decode-varint-capped-number, decode-key-number, decode-value-number}
+pub use Rattle.demands.specs.Verdicts.{skip-field-number, step-at-number, more-at-number, has-more-number, take-step-number}
+pub use Rattle.demands.specs.Verdicts.{step-through-number, count-fields-number, read-message-number, read-payload-number, pick-at-number}
+pub use Rattle.demands.specs.Verdicts.{pick-number, pick-early-number, copy-message-number, encode-varint-number, prepend-varint-number}
+pub use Rattle.demands.specs.Verdicts.{encode-key-number, prepend-key-number, key-len-number, encoded-len-message-number, encode-message-number}
+pub use Rattle.demands.specs.Verdicts.{prepend-message-number, insert-number}
+pub use Rattle.demands.specs.VerdictsC.{c-decode-varint-number, c-decode-varint-capped-number, c-encode-varint-number, c-prepend-varint-number}
+pub use Rattle.demands.specs.VerdictsC.{c-decode-key-number, c-encode-key-number, c-prepend-key-number, c-key-len-number, c-decode-value-number}
+pub use Rattle.demands.specs.VerdictsC.{c-skip-field-number, c-step-at-number, c-read-message-number, c-read-payload-number, c-pick-number}
+pub use Rattle.demands.specs.VerdictsC.{c-pick-at-number, c-pick-early-number, c-encode-message-number, c-prepend-message-number}
+pub use Rattle.demands.specs.VerdictsC.{c-encoded-len-message-number, c-insert-number, c-read-sounding-number}
+pub use Rattle.demands.specs.SoundingVerdict.{read-sounding-number}
+
+-- ---- THE SECOND DEMAND: values, places and names are those of the rules
+
+-- Reading and writing are held to the definitions by the contracts themselves. The cases of FORMAT.md that are marked P, over the programs:
+pub use Rattle.demands.specs.Cases.{told-cases}
+
+-- for every source, table, count and buffer, what is written is the list that the records stand for
+pub use Rattle.demands.specs.Writing.{encode-writes, prepend-writes}
+
+-- what is measured is what is put; the signed mapping and back; the table of limits
+pub use Rattle.demands.specs.Lengths.{encode-varint-measured, prepend-varint-measured, encode-key-measured, prepend-key-measured, signed-back}
+pub use Rattle.demands.specs.Lengths.{unsigned-back, table-limits}
+
+-- an insertion puts the new field behind all of an equal or lower tag, and a good table stays good
+pub use Rattle.demands.specs.Inserting.{Inserting, fields, good-again}
+
+-- a lookup that stops early answers as the full one does wherever that does not refuse
+pub use Rattle.demands.specs.Early.{Promise, every-early}
+
+-- ---- THE THIRD DEMAND: a message is refused exactly if no list of fields is written as it
+
+-- A message read whole, with a table of at least half as many records as it has bytes, is refused exactly if no list of fields in non-falling tag order is
+-- written as those bytes. Else the list handed out is the only such list ..
+pub use Rattle.demands.specs.Reading.{Whole, Meant, Third, third}
+
+-- .. and writing it, forwards or from the end, gives the same bytes back
+pub use Rattle.demands.specs.Writing.{forwards, from-the-end}
