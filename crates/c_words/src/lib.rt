@@ -110,7 +110,7 @@ pub struct WrittenWords {
     pub length: u64,
 }
 
-// A number as a wire type, if it is one.
+// A number as a wire type, or that it is none.
 pub enum Typed {
     Is(WireType),
     Unknown,
@@ -124,6 +124,7 @@ pub struct SoundingWords {
     pub levels: u64,
 }
 
+// A number as a wire type, if it is one.
 pub fn wire_type(kind: u64) -> Typed
     ensures { λ r. ⌜ r ≡ typedOf kind ⌝ }
 {
@@ -172,6 +173,7 @@ fn value_words(v: Value) -> ValueParts
     }
 }
 
+// The number of bytes put.
 pub fn put_words(p: Put) -> Number
     ensures { λ r. ⌜ asNumber r ≡ putTold p ⌝ }
 {
@@ -187,6 +189,7 @@ pub fn put_words(p: Put) -> Number
     }
 }
 
+// A number and the place after it.
 pub fn varint_words(v: VarintRead) -> Varint
     ensures { λ r. ⌜ asVarint r ≡ varintTold v ⌝ }
 {
@@ -204,6 +207,7 @@ pub fn varint_words(v: VarintRead) -> Varint
     }
 }
 
+// The place reached and the number of fields.
 pub fn read_words(m: Read) -> ReadWords
     ensures { λ r. ⌜ asRead r ≡ readTold m ⌝ }
 {
@@ -221,6 +225,7 @@ pub fn read_words(m: Read) -> ReadWords
     }
 }
 
+// A tag, a wire type and the place after the key.
 pub fn key_words(k: KeyRead) -> KeyWords
     ensures { λ r. ⌜ asKey r ≡ keyTold k ⌝ }
 {
@@ -243,6 +248,7 @@ pub fn key_words(k: KeyRead) -> KeyWords
     }
 }
 
+// A value's last two words and the place after it.
 pub fn value_read_words(v: ValueRead) -> ValueWords
     ensures { λ r. ⌜ asValue r ≡ valueTold v ⌝ }
 {
@@ -265,6 +271,7 @@ pub fn value_read_words(v: ValueRead) -> ValueWords
     }
 }
 
+// The place reached.
 pub fn skipped_words(k: Skipped) -> PlaceWords
     ensures { λ r. ⌜ asPlace r ≡ skippedTold k ⌝ }
 {
@@ -280,6 +287,7 @@ pub fn skipped_words(k: Skipped) -> PlaceWords
     }
 }
 
+// A field and the place after it, or the place and the last tag that were given.
 pub fn step_words(at: usize, last: u32, k: Step) -> StepWords
     ensures { λ r. ⌜ asStep r ≡ stepTold at last k ⌝ }
 {
@@ -317,6 +325,7 @@ fn no_field(number: u64, place: usize, tag: u32) -> StepWords
     }
 }
 
+// A length.
 pub fn measured_words(m: Measured) -> Number
     ensures { λ r. ⌜ asNumber r ≡ measuredTold m ⌝ }
 {
@@ -332,6 +341,7 @@ pub fn measured_words(m: Measured) -> Number
     }
 }
 
+// Where the bytes start, and how many there are.
 pub fn written_words(w: Written) -> WrittenWords
     ensures { λ r. ⌜ asWritten r ≡ writtenTold w ⌝ }
 {
@@ -349,6 +359,7 @@ pub fn written_words(w: Written) -> WrittenWords
     }
 }
 
+// The new number of records.
 pub fn inserted_words(i: Inserted) -> Number
     ensures { λ r. ⌜ asNumber r ≡ insertedTold i ⌝ }
 {
@@ -407,6 +418,7 @@ fn uncounted(w: LookupWords) -> PickWords
     }
 }
 
+// The only field of a tag.
 pub fn pick_words(p: Picked) -> PickWords
     ensures { λ r. ⌜ asPicked r ≡ pickedTold p ⌝ }
 {
@@ -417,6 +429,7 @@ pub fn pick_words(p: Picked) -> PickWords
     }
 }
 
+// How many fields there are of a tag, and one of them.
 pub fn several_words(p: Several) -> LookupWords
     ensures { λ r. ⌜ asSeveral r ≡ severalTold p ⌝ }
 {
@@ -427,6 +440,7 @@ pub fn several_words(p: Several) -> LookupWords
     }
 }
 
+// How many keys were read, and the only field of a tag.
 pub fn early_words(p: Early) -> LookupWords
     ensures { λ r. ⌜ asEarly r ≡ earlyTold p ⌝ }
 {
@@ -437,6 +451,7 @@ pub fn early_words(p: Early) -> LookupWords
     }
 }
 
+// A station, a launch and the number of levels.
 pub fn sounding_words(a: Sounding) -> SoundingWords
     ensures { λ r. ⌜ asSounding r ≡ soundingTold a ⌝ }
 {

@@ -8,7 +8,6 @@
 pub use Rattle.sounding.proofs.Only.{accepted-tells, out-of-range-why}
 pub use Rattle.sounding.specs.Promises.{Told, missing-stays-missing, only-if-sent, if-sent, only-if-255, if-255}
 pub use Rattle.demands.specs.AllOnesAlone.{all-ones-outcome, c-all-ones-outcome}
-
 -- A refusal leaves everything as it was: the words and bytes that were lent hold what they held. And what is accepted changes nothing outside its part.
 pub use Rattle.demands.specs.Refusals.{Framed, encode-varint-frame, prepend-varint-frame, encode-key-frame, prepend-key-frame}
 pub use Rattle.demands.specs.Refusals.{read-message-frame, read-payload-frame, encode-message-frame, prepend-message-frame, insert-frame}
@@ -16,7 +15,6 @@ pub use Rattle.demands.specs.Refusals.{read-sounding-frame, copy-message
 pub use Rattle.demands.specs.Refusals.{c-encode-varint-frame, c-prepend-varint-frame, c-encode-key-frame, c-prepend-key-frame}
 pub use Rattle.demands.specs.Refusals.{c-read-message-frame, c-read-payload-frame, c-encode-message-frame, c-prepend-message-frame}
 pub use Rattle.demands.specs.Refusals.{c-insert-frame, c-read-sounding-frame}
-
 -- ---- THE FIRST DEMAND: every entry takes every input and ends, and bad bytes, caps or tables get a numbered refusal
 
 -- That it ends, and asks nothing of its caller, is in the contract of each function: no public one has a `requires`. Any two outcomes are equal
@@ -34,30 +32,23 @@ pub use Rattle.demands.specs.VerdictsC.{c-skip-field-number, c-step-at-n
 pub use Rattle.demands.specs.VerdictsC.{c-pick-at-number, c-pick-early-number, c-encode-message-number, c-prepend-message-number}
 pub use Rattle.demands.specs.VerdictsC.{c-encoded-len-message-number, c-insert-number, c-read-sounding-number}
 pub use Rattle.demands.specs.SoundingVerdict.{read-sounding-number}
-
 -- ---- THE SECOND DEMAND: values, places and names are those of the rules
 
 -- Reading and writing are held to the definitions by the contracts themselves. The cases of FORMAT.md that are marked P, over the programs:
 pub use Rattle.demands.specs.Cases.{told-cases}
-
 -- for every source, table, count and buffer, what is written is the list that the records stand for
 pub use Rattle.demands.specs.Writing.{encode-writes, prepend-writes}
-
 -- what is measured is what is put; the signed mapping and back; the table of limits
 pub use Rattle.demands.specs.Lengths.{encode-varint-measured, prepend-varint-measured, encode-key-measured, prepend-key-measured, signed-back}
 pub use Rattle.demands.specs.Lengths.{unsigned-back, table-limits}
-
 -- an insertion puts the new field behind all of an equal or lower tag, and a good table stays good
 pub use Rattle.demands.specs.Inserting.{Inserting, fields, good-again}
-
 -- a lookup that stops early answers as the full one does wherever that does not refuse
 pub use Rattle.demands.specs.Early.{Promise, every-early}
-
 -- ---- THE THIRD DEMAND: a message is refused exactly if no list of fields is written as it
 
 -- A message read whole, with a table of at least half as many records as it has bytes, is refused exactly if no list of fields in non-falling tag order is
 -- written as those bytes. Else the list handed out is the only such list ..
 pub use Rattle.demands.specs.Reading.{Whole, Meant, Third, third}
-
 -- .. and writing it, forwards or from the end, gives the same bytes back
 pub use Rattle.demands.specs.Writing.{forwards, from-the-end}
