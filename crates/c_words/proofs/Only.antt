@@ -18,8 +18,8 @@ use Rattle.c_words.proofs.skipped_words.Kinds as skipped-words
 use Rattle.c_words.proofs.skipped_words.Reads as skipped-words-reads
 use Rattle.c_words.proofs.step_words.Kinds as step-words
 use Rattle.c_words.proofs.step_words.Reads as step-words-reads
-use Rattle.c_words.proofs.measured_words.Kinds as measured-words
-use Rattle.c_words.proofs.measured_words.Reads as measured-words-reads
+use Rattle.c_words.proofs.key_len_words.Kinds as key-len-words
+use Rattle.c_words.proofs.key_len_words.Reads as key-len-words-reads
 use Rattle.c_words.proofs.written_words.Kinds as written-words
 use Rattle.c_words.proofs.written_words.Reads as written-words-reads
 use Rattle.c_words.proofs.inserted_words.Kinds as inserted-words
@@ -57,8 +57,8 @@ skipped-words-one κs a x y s t p q = p ∙ sym q
 pub step-words-one : One 0 step-words.ps step-words.r step-words-reads.Post (λ κs r s. asStep r)
 step-words-one κs a x y s t p q = p ∙ sym q
 
-pub measured-words-one : One 0 measured-words.ps measured-words.r measured-words-reads.Post (λ κs r s. asNumber r)
-measured-words-one κs a x y s t p q = p ∙ sym q
+pub key-len-words-one : One 0 key-len-words.ps key-len-words.r key-len-words-reads.Post (λ κs r s. asNumber r)
+key-len-words-one κs a x y s t p q = p ∙ sym q
 
 pub written-words-one : One 0 written-words.ps written-words.r written-words-reads.Post (λ κs r s. asWritten r)
 written-words-one κs a x y s t p q = p ∙ sym q

@@ -105,7 +105,8 @@ abbrev pub levelsTold : levels.Outcome → Lent soundings.Heading
 levelsTold o = record { told = soundingTold (o .answer); lent = o .levels }
 
 -- a told answer in words, with what is lent beside it
-pub handed : {A : Type 0} {t u : A} {l : List ℕ} {o : Lent A} → t ≡ u → _≡_ {A = Lent A} (record { told = u; lent = l }) o → _≡_ {A = Lent A} (record { told = t; lent = l }) o
+pub handed : {A : Type 0} {t u : A} {l : List ℕ} {o : Lent A} → t ≡ u → _≡_ {A = Lent A} (record { told = u; lent = l }) o
+    → _≡_ {A = Lent A} (record { told = t; lent = l }) o
 handed e f = rw e f
 
 -- ---- a wire type passed as a number (rule R10): one above 3 is BadRecord, before all else, with what the entry's other refusals carry

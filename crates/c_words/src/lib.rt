@@ -1,12 +1,13 @@
 // The words that C is handed for each answer: plain structs whose first word is the number of rule R1. `told` says what the others are.
 ghost use mathlib.Core.Path.{_≡_};
 ghost use Rattle.wire.specs.Table.{kindWord, valueWord, lengthWord};
-ghost use Rattle.entry_answer.specs.Told.{putTold, varintTold, readTold, pickedTold, severalTold, earlyTold, measuredTold, keyTold, valueTold, skippedTold, stepTold, writtenTold, insertedTold};
+ghost use Rattle.entry_answer.specs.Told.{putTold, varintTold, readTold, pickedTold, severalTold, earlyTold, keyLenTold, keyTold, valueTold};
+ghost use Rattle.entry_answer.specs.Told.{skippedTold, stepTold, writtenTold, insertedTold};
 ghost use Rattle.sounding.specs.Told.{soundingTold};
 ghost use Rattle.c_words.specs.Words.{asNumber, asVarint, asRead, asPicked, asSeveral, asEarly, asWritten, asKey, asValue, asPlace, asStep, asSounding};
 ghost use Rattle.c_words.specs.Words.{typedOf, foundWords, noneWords, uncountedOf};
+use entry_answer::KeyLength;
 use entry_answer::KeyRead;
-use entry_answer::Measured;
 use entry_answer::Picked;
 use entry_answer::Put;
 use entry_answer::Several;
@@ -326,15 +327,15 @@ fn no_field(number: u64, place: usize, tag: u32) -> StepWords
 }
 
 // A length.
-pub fn measured_words(m: Measured) -> Number
-    ensures { λ r. ⌜ asNumber r ≡ measuredTold m ⌝ }
+pub fn key_len_words(m: KeyLength) -> Number
+    ensures { λ r. ⌜ asNumber r ≡ keyLenTold m ⌝ }
 {
     match m {
-        Measured::Length(n) => Number {
+        KeyLength::Length(n) => Number {
             number: 0,
             value: n as u64,
         },
-        Measured::Refused(r) => Number {
+        KeyLength::Refused(r) => Number {
             number: wire::number_of(r),
             value: 0,
         },

@@ -1,8 +1,8 @@
 // The face: every entry that a caller has, and every answer, by one name. Each stands with its contract in the crate that it is taken from.
 
 // ---- answers
+pub use entry_answer::KeyLength;
 pub use entry_answer::KeyRead;
-pub use entry_answer::Measured;
 pub use entry_answer::More;
 pub use entry_answer::Picked;
 pub use entry_answer::Put;

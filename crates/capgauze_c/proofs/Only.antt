@@ -71,19 +71,23 @@ decode-varint-one κs a x y s t p q = p ∙ sym q
 pub decode-varint-capped-one : One 1 decode-varint-capped.ps decode-varint-capped.r decode-varint-capped-reads.Post (λ κs r s. asVarint r)
 decode-varint-capped-one κs a x y s t p q = p ∙ sym q
 
-pub encode-varint-one : One 1 encode-varint.ps encode-varint.r encode-varint-reads.Post {S = Lent told.Number} (λ κs r s. record { told = asNumber r; lent = now (s .1 .0) })
+pub encode-varint-one : One 1 encode-varint.ps encode-varint.r encode-varint-reads.Post {S = Lent told.Number}
+    (λ κs r s. record { told = asNumber r; lent = now (s .1 .0) })
 encode-varint-one κs a x y s t p q = p ∙ sym q
 
-pub prepend-varint-one : One 1 prepend-varint.ps prepend-varint.r prepend-varint-reads.Post {S = Lent told.Number} (λ κs r s. record { told = asNumber r; lent = now (s .1 .0) })
+pub prepend-varint-one : One 1 prepend-varint.ps prepend-varint.r prepend-varint-reads.Post {S = Lent told.Number}
+    (λ κs r s. record { told = asNumber r; lent = now (s .1 .0) })
 prepend-varint-one κs a x y s t p q = p ∙ sym q
 
 pub decode-key-one : One 1 decode-key.ps decode-key.r decode-key-reads.Post (λ κs r s. asKey r)
 decode-key-one κs a x y s t p q = p ∙ sym q
 
-pub encode-key-one : One 1 encode-key.ps encode-key.r encode-key-reads.Post {S = Lent told.Number} (λ κs r s. record { told = asNumber r; lent = now (s .1 .1 .1 .0) })
+pub encode-key-one : One 1 encode-key.ps encode-key.r encode-key-reads.Post {S = Lent told.Number}
+    (λ κs r s. record { told = asNumber r; lent = now (s .1 .1 .1 .0) })
 encode-key-one κs a x y s t p q = p ∙ sym q
 
-pub prepend-key-one : One 1 prepend-key.ps prepend-key.r prepend-key-reads.Post {S = Lent told.Number} (λ κs r s. record { told = asNumber r; lent = now (s .1 .1 .1 .0) })
+pub prepend-key-one : One 1 prepend-key.ps prepend-key.r prepend-key-reads.Post {S = Lent told.Number}
+    (λ κs r s. record { told = asNumber r; lent = now (s .1 .1 .1 .0) })
 prepend-key-one κs a x y s t p q = p ∙ sym q
 
 pub key-len-one : One 0 key-len.ps key-len.r key-len-reads.Post (λ κs r s. asNumber r)
@@ -98,13 +102,15 @@ skip-field-one κs a x y s t p q = p ∙ sym q
 pub step-at-one : One 1 step-at.ps step-at.r step-at-reads.Post (λ κs r s. asStep r)
 step-at-one κs a x y s t p q = p ∙ sym q
 
-pub read-message-one : One 2 read-message.ps read-message.r read-message-reads.Post {S = Lent told.Message} (λ κs r s. record { told = asRead r; lent = now (s .1 .1 .1 .0) })
+pub read-message-one : One 2 read-message.ps read-message.r read-message-reads.Post {S = Lent told.Message}
+    (λ κs r s. record { told = asRead r; lent = now (s .1 .1 .1 .0) })
 read-message-one κs a x y s t p q = p ∙ sym q
 
 pub payload-of-one : One 1 payload-of.ps payload-of.r payload-of-reads.Post (λ κs r s. asPart r)
 payload-of-one κs a x y s t p q = p ∙ sym q
 
-pub read-payload-one : One 2 read-payload.ps read-payload.r read-payload-reads.Post {S = Lent told.Message} (λ κs r s. record { told = asRead r; lent = now (s .1 .1 .1 .1 .1 .0) })
+pub read-payload-one : One 2 read-payload.ps read-payload.r read-payload-reads.Post {S = Lent told.Message}
+    (λ κs r s. record { told = asRead r; lent = now (s .1 .1 .1 .1 .1 .0) })
 read-payload-one κs a x y s t p q = p ∙ sym q
 
 pub pick-one : One 1 pick.ps pick.r pick-reads.Post (λ κs r s. asPicked r)
@@ -116,10 +122,12 @@ pick-at-one κs a x y s t p q = p ∙ sym q
 pub pick-early-one : One 1 pick-early.ps pick-early.r pick-early-reads.Post (λ κs r s. asEarly r)
 pick-early-one κs a x y s t p q = p ∙ sym q
 
-pub encode-message-one : One 3 encode-message.ps encode-message.r encode-message-reads.Post {S = Lent told.Wrote} (λ κs r s. record { told = asWritten r; lent = now (s .1 .1 .1 .0) })
+pub encode-message-one : One 3 encode-message.ps encode-message.r encode-message-reads.Post {S = Lent told.Wrote}
+    (λ κs r s. record { told = asWritten r; lent = now (s .1 .1 .1 .0) })
 encode-message-one κs a x y s t p q = p ∙ sym q
 
-pub prepend-message-one : One 3 prepend-message.ps prepend-message.r prepend-message-reads.Post {S = Lent told.Wrote} (λ κs r s. record { told = asWritten r; lent = now (s .1 .1 .1 .0) })
+pub prepend-message-one : One 3 prepend-message.ps prepend-message.r prepend-message-reads.Post {S = Lent told.Wrote}
+    (λ κs r s. record { told = asWritten r; lent = now (s .1 .1 .1 .0) })
 prepend-message-one κs a x y s t p q = p ∙ sym q
 
 pub encoded-len-message-one : One 2 encoded-len-message.ps encoded-len-message.r encoded-len-message-reads.Post (λ κs r s. asWritten r)
@@ -128,5 +136,6 @@ encoded-len-message-one κs a x y s t p q = p ∙ sym q
 pub insert-one : One 2 insert.ps insert.r insert-reads.Post {S = Lent told.Number} (λ κs r s. record { told = asNumber r; lent = now (s .1 .0) })
 insert-one κs a x y s t p q = p ∙ sym q
 
-pub read-sounding-one : One 2 read-sounding.ps read-sounding.r read-sounding-reads.Post {S = Lent soundings.Heading} (λ κs r s. record { told = asSounding r; lent = now (s .1 .0) })
+pub read-sounding-one : One 2 read-sounding.ps read-sounding.r read-sounding-reads.Post {S = Lent soundings.Heading}
+    (λ κs r s. record { told = asSounding r; lent = now (s .1 .0) })
 read-sounding-one κs a x y s t p q = p ∙ sym q

@@ -5,7 +5,8 @@ ghost use lib.ListN.{length as size};
 ghost use Rattle.wire.specs.Varint.{encode};
 ghost use Rattle.wire.specs.Signed.{toUnsigned, toSigned};
 ghost use Rattle.message_payload.specs.Payload.{spanOf};
-ghost use Rattle.entry_answer.specs.Told.{putTold, varintTold, readTold, pickedTold, severalTold, earlyTold, measuredTold, keyTold, valueTold, skippedTold, stepTold, writtenTold, insertedTold};
+ghost use Rattle.entry_answer.specs.Told.{putTold, varintTold, readTold, pickedTold, severalTold, earlyTold, keyLenTold, keyTold, valueTold};
+ghost use Rattle.entry_answer.specs.Told.{skippedTold, stepTold, writtenTold, insertedTold};
 ghost use Rattle.entry_write.specs.Writers.{encodeMessage, prependMessage, encodedLen, insertRecord};
 ghost use Rattle.entry_key.specs.Keys.{decodeKey, keyAtFront, keyAtEnd, keyLen};
 ghost use Rattle.entry_field.specs.Fields.{decodeValue, skipField, stepEntry};
@@ -14,7 +15,8 @@ ghost use Rattle.entry_answer.specs.Stores.{atFront, atEnd};
 ghost use Rattle.entry_message.specs.Messages.{readEntry, readPayload, pickEntry, severalEntry, earlyEntry};
 ghost use Rattle.sounding.specs.Told.{soundingTold};
 ghost use Rattle.sounding.specs.Words.{readSounding};
-ghost use Rattle.c_words.specs.Words.{Lent, asNumber, asVarint, asRead, asPicked, asSeveral, asEarly, asPart, asWritten, asKey, asValue, asPlace, asStep, asSounding};
+ghost use Rattle.c_words.specs.Words.{Lent, asNumber, asVarint, asRead, asPicked, asSeveral, asEarly, asPart, asWritten, asKey, asValue, asPlace};
+ghost use Rattle.c_words.specs.Words.{asStep, asSounding};
 ghost use Rattle.c_words.specs.Words.{typedOf, keyStored, valueTyped, placeTyped, storedTold, outcomeTold, writingTold, insertionTold, levelsTold};
 use c_words::KeyWords;
 use c_words::LookupWords;
@@ -128,9 +130,9 @@ pub extern "C" fn capgauze_prepend_key(last: u32, tag: u32, kind: u64, buf: &mut
 // How many bytes a key takes.
 #[no_mangle]
 pub extern "C" fn capgauze_key_len(last: u32, tag: u32) -> Number
-    ensures { λ r. ⌜ asNumber r ≡ measuredTold (keyLen last tag) ⌝ }
+    ensures { λ r. ⌜ asNumber r ≡ keyLenTold (keyLen last tag) ⌝ }
 {
-    c_words::measured_words(capgauze::key_len(last, tag))
+    c_words::key_len_words(capgauze::key_len(last, tag))
 }
 
 // The value of a type at a place.

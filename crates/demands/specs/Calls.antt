@@ -13,7 +13,8 @@ use Rattle.entry_message.proofs.read_message.Reads as reads
 
 -- of a function with l lifetimes, parameters ps and result r, whose contract is post: what is said of the arguments, the result and what is left is so of every
 -- outcome
-abbrev pub Every : (l : ℕ) (ps : List (PK l)) (r : RK l) → Out l ps r → ((κs : Lfts l) → Dens κs ps → resT r κs .Denot → AtExit (endedOf l ps r) κs → Type 0) → Type 0
+abbrev pub Every : (l : ℕ) (ps : List (PK l)) (r : RK l) → Out l ps r
+    → ((κs : Lfts l) → Dens κs ps → resT r κs .Denot → AtExit (endedOf l ps r) κs → Type 0) → Type 0
 Every l ps r post said = (κs : Lfts l) (a : Dens κs ps) (x : resT r κs .Denot) (s : AtExit (endedOf l ps r) κs) → post κs a x s → said κs a x s
 
 -- a record as C passes it: four words

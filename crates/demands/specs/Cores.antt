@@ -89,7 +89,8 @@ put-part-frame κs a x s p =
 pub put-fixed-frame : Every 1 put-fixed.ps put-fixed.r put-fixed-reads.Post (λ κs a x s. Behind (now (a .0)) (a .1 .0) (record { next = x; buf = now (s .0) }))
 put-fixed-frame κs a x s p = subst (Behind (now (a .0)) (a .1 .0)) (sym p) (put-behind (now (a .0)) (a .1 .0) (fixed (a .1 .1 .0) (a .1 .1 .1 .0)))
 
-pub put-varint-frame : Every 1 put-varint.ps put-varint.r put-varint-reads.Post (λ κs a x s. Behind (now (a .0)) (a .1 .0) (record { next = x; buf = now (s .0) }))
+pub put-varint-frame : Every 1 put-varint.ps put-varint.r put-varint-reads.Post
+    (λ κs a x s. Behind (now (a .0)) (a .1 .0) (record { next = x; buf = now (s .0) }))
 put-varint-frame κs a x s p = subst (Behind (now (a .0)) (a .1 .0)) (sym p) (put-behind (now (a .0)) (a .1 .0) (encode (a .1 .1 .0)))
 
 pub prepend-varint-frame : Every 1 prepend-varint.ps prepend-varint.r prepend-varint-reads.Post

@@ -108,7 +108,7 @@ pub use Rattle.c_words.proofs.Only.{key-words-one as c-key-words-one}
 pub use Rattle.c_words.proofs.Only.{value-read-words-one as c-value-read-words-one}
 pub use Rattle.c_words.proofs.Only.{skipped-words-one as c-skipped-words-one}
 pub use Rattle.c_words.proofs.Only.{step-words-one as c-step-words-one}
-pub use Rattle.c_words.proofs.Only.{measured-words-one as c-measured-words-one}
+pub use Rattle.c_words.proofs.Only.{key-len-words-one as c-key-len-words-one}
 pub use Rattle.c_words.proofs.Only.{written-words-one as c-written-words-one}
 pub use Rattle.c_words.proofs.Only.{inserted-words-one as c-inserted-words-one}
 pub use Rattle.c_words.proofs.Only.{pick-words-one as c-pick-words-one}

@@ -59,7 +59,8 @@ pub record Before (s : List ℕ) (t : ℕ) (r : Early) : Type 0 where
   pub accepted : readMessage (take place s) 0 place ≡ Fields fields
   pub low : UpTo t fields
   pub same : pickEntry (take place s) t ≡ answerOf r
-  pub keys : ((place ≡ length s) × (keysOf r ≡ length fields)) ⊎ ((above t (keyAt s (length s) place (lastOf 0 fields)) ≡ true) × (keysOf r ≡ length fields + 1))
+  pub keys : ((place ≡ length s) × (keysOf r ≡ length fields)) ⊎
+      ((above t (keyAt s (length s) place (lastOf 0 fields)) ≡ true) × (keysOf r ≡ length fields + 1))
 
 pub record Promise (s : List ℕ) (t : ℕ) (r : Early) : Type 0 where
   pub full : Answers (pickEntry s t) → answerOf r ≡ pickEntry s t

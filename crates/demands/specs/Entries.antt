@@ -55,7 +55,7 @@ use Rattle.entry_reader.specs.Counting.{counted, countEntry, countedTold}
 use Rattle.entry_reader.specs.declared.Counted.the-variants as countedAs
 use Rattle.entry_copy.specs.Copy.{copiedBy, copied, copiedTold}
 use Rattle.entry_write.specs.Writers.{encodeMessage, prependMessage}
-use Rattle.entry_answer.specs.Told.{putTold, varintTold, moreTold, measuredTold, keyTold, valueTold, skippedTold, stepTold, readTold, pickedTold, severalTold}
+use Rattle.entry_answer.specs.Told.{putTold, varintTold, moreTold, keyLenTold, keyTold, valueTold, skippedTold, stepTold, readTold, pickedTold, severalTold}
 use Rattle.entry_answer.specs.Told.{earlyTold, writtenTold, insertedTold}
 use Rattle.entry_answer.specs.declared.VarintRead.the-variants as varintAnswer
 use Rattle.entry_answer.specs.declared.KeyRead.the-variants as keyRead
@@ -63,7 +63,7 @@ use Rattle.entry_answer.specs.declared.ValueRead.the-variants as valueRead
 use Rattle.entry_answer.specs.declared.Skipped.the-variants as skipped
 use Rattle.entry_answer.specs.declared.Step.the-variants as step
 use Rattle.entry_answer.specs.declared.More.the-variants as more
-use Rattle.entry_answer.specs.declared.Measured.{Measured}
+use Rattle.entry_answer.specs.declared.KeyLength.{KeyLength}
 use Rattle.entry_answer.specs.declared.Picked.the-variants as pickedAs
 use Rattle.entry_answer.specs.declared.Several.the-variants as severalAs
 use Rattle.demands.specs.Order.{Rule, when, firstOf, orElse, refused-first}
@@ -300,9 +300,9 @@ pub prepend-key-order : (last tag : ℕ) (w : WireType) (b : List ℕ) → store
 unfolding keyAtEnd atEnd
 prepend-key-order last tag w b = let k = keyBytes last tag w in falls-told storedNumber last tag (atEnd b k) _ (roomRules b k) (room-told b k _) refl
 
-pub key-len-order : (last tag : ℕ) → measuredTold (keyLen last tag) .number ≡ firstOf (keyLenOrder last tag)
+pub key-len-order : (last tag : ℕ) → keyLenTold (keyLen last tag) .number ≡ firstOf (keyLenOrder last tag)
 unfolding keyLen
-key-len-order last tag = falls-told (λ (y : Measured). measuredTold y .number) last tag _ _ [] refl refl
+key-len-order last tag = falls-told (λ (y : KeyLength). keyLenTold y .number) last tag _ _ [] refl refl
 
 -- ---- a message copied
 

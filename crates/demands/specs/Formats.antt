@@ -9,7 +9,8 @@ use lib.ListN.{length, drop}
 use Rattle.wire.specs.Choose.{choose}
 use Rattle.wire.specs.Varint.{Sum, Adds, Stops, sum}
 use Rattle.wire.specs.Numbers.{numberOf}
-use Rattle.wire.specs.Reading.{judged, varintAt, renamed, cappedAt, keyOf, keyAt, within, numberFrom, payloadFrom, valueAt, tagged, fieldOf, fieldAt, Message, Fields, Refused, more, onward, ended, readsFrom, readMessage}
+use Rattle.wire.specs.Reading.{judged, varintAt, renamed, cappedAt, keyOf, keyAt, within, numberFrom, payloadFrom, valueAt, tagged, fieldOf, fieldAt}
+use Rattle.wire.specs.Reading.{Message, Fields, Refused, more, onward, ended, readsFrom, readMessage}
 use Rattle.wire.specs.declared.Refusal.{Refusal}
 use Rattle.wire.specs.declared.Refusal.the-variants.{Truncated}
 use Rattle.wire.specs.declared.WireType.{WireType}

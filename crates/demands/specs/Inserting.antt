@@ -232,7 +232,8 @@ module _ (n : ℕ) (t : List ℕ) (c : ℕ) (r : Record) (f : tested c n t ≡ A
           near true d = at (omega (arith, leb-true i p b, leb-true p i d))
           near false d =
               let l = leb-false p i d in
-              ap (judge n (tagBefore u i)) (before-spot t c r p inside fits i l) ∙ ap (λ (x : ℕ). judge n x (recordAt t i)) (front i l) ∙ of-table i (omega (arith, inside))
+              ap (judge n (tagBefore u i)) (before-spot t c r p inside fits i l) ∙ ap (λ (x : ℕ). judge n x (recordAt t i)) (front i l)
+              ∙ of-table i (omega (arith, inside))
       go false b = let l = leb-false i p b in later (i - 1) (omega arith) (omega arith)
 
   all-of : (k : ℕ) → k ≤ suc c → tested k n u ≡ AllFine

@@ -16,7 +16,7 @@ use Rattle.wire.specs.Signed.{toUnsigned, toSigned, signed-unsigned, unsigned-s
 use Rattle.wire.specs.Types.{key-length}
 use Rattle.wire.specs.declared.Refusal.the-variants.{NoRoom, OutOfOrder}
 use Rattle.wire.specs.declared.WireType.{WireType}
-use Rattle.entry_answer.specs.Told.{Number, putTold, measuredTold}
+use Rattle.entry_answer.specs.Told.{Number, putTold, keyLenTold}
 use Rattle.entry_answer.specs.Stores.{Stored, roomFor, atFront, atEnd}
 use Rattle.entry_key.specs.Keys.{keyBytes, keyAtFront, keyAtEnd, keyLen}
 use Rattle.demands.specs.Calls.{Every}
@@ -90,19 +90,19 @@ module _ (last tag : ℕ) (w : WireType) (b : List ℕ) where
   falls-agrees : Agrees (record { number = numberOf OutOfOrder; value = 0 }) (length b) (record { number = numberOf OutOfOrder; value = 0 })
   falls-agrees = record { measures = λ z. absurd (omega arith); refused = λ z. refl }
 
-  front-agrees : Agrees (measuredTold (keyLen last tag)) (length b) (putTold (keyAtFront b last tag w .answer))
+  front-agrees : Agrees (keyLenTold (keyLen last tag)) (length b) (putTold (keyAtFront b last tag w .answer))
   unfolding keyLen keyAtFront
   front-agrees = go (leb last tag) refl
     where
-      go : (t : Bool) → leb last tag ≡ t → Agrees (measuredTold (keyLen last tag)) (length b) (putTold (keyAtFront b last tag w .answer))
+      go : (t : Bool) → leb last tag ≡ t → Agrees (keyLenTold (keyLen last tag)) (length b) (putTold (keyAtFront b last tag w .answer))
       go true t = rw t (measured-agrees _ (key-bytes (front-measures b (keyBytes last tag w))))
       go false t = rw t falls-agrees
 
-  end-agrees : Agrees (measuredTold (keyLen last tag)) (length b) (putTold (keyAtEnd b last tag w .answer))
+  end-agrees : Agrees (keyLenTold (keyLen last tag)) (length b) (putTold (keyAtEnd b last tag w .answer))
   unfolding keyLen keyAtEnd
   end-agrees = go (leb last tag) refl
     where
-      go : (t : Bool) → leb last tag ≡ t → Agrees (measuredTold (keyLen last tag)) (length b) (putTold (keyAtEnd b last tag w .answer))
+      go : (t : Bool) → leb last tag ≡ t → Agrees (keyLenTold (keyLen last tag)) (length b) (putTold (keyAtEnd b last tag w .answer))
       go true t = rw t (measured-agrees _ (key-bytes (end-measures b (keyBytes last tag w))))
       go false t = rw t falls-agrees
 
@@ -121,7 +121,7 @@ prepend-varint-measured κs a n s q ls b x t p e = varint-measures atEnd end-mea
 -- `key_len` is what `encode_key` and `prepend_key` put, whatever the wire type
 pub encode-key-measured : Every 0 key-len.ps key-len.r key-len-reads.Post
     (λ κs a y s. Every 1 encode-key.ps encode-key.r encode-key-reads.Post
-    (λ ls b x t. b .0 ≡ a .0 → b .1 .0 ≡ a .1 .0 → Agrees (measuredTold y) (length (now (b .1 .1 .1 .0))) (putTold x)))
+    (λ ls b x t. b .0 ≡ a .0 → b .1 .0 ≡ a .1 .0 → Agrees (keyLenTold y) (length (now (b .1 .1 .1 .0))) (putTold x)))
 encode-key-measured κs a y s q ls b x t p e f =
     let u = now (b .1 .1 .1 .0) in
     let z = p ∙ ap (λ (n : ℕ). keyAtFront u n (b .1 .0) (b .1 .1 .0)) e ∙ ap (λ (n : ℕ). keyAtFront u (a .0) n (b .1 .1 .0)) f in
@@ -129,7 +129,7 @@ encode-key-measured κs a y s q ls b x t p e f =
 
 pub prepend-key-measured : Every 0 key-len.ps key-len.r key-len-reads.Post
     (λ κs a y s. Every 1 prepend-key.ps prepend-key.r prepend-key-reads.Post
-    (λ ls b x t. b .0 ≡ a .0 → b .1 .0 ≡ a .1 .0 → Agrees (measuredTold y) (length (now (b .1 .1 .1 .0))) (putTold x)))
+    (λ ls b x t. b .0 ≡ a .0 → b .1 .0 ≡ a .1 .0 → Agrees (keyLenTold y) (length (now (b .1 .1 .1 .0))) (putTold x)))
 prepend-key-measured κs a y s q ls b x t p e f =
     let u = now (b .1 .1 .1 .0) in
     let z = p ∙ ap (λ (n : ℕ). keyAtEnd u n (b .1 .0) (b .1 .1 .0)) e ∙ ap (λ (n : ℕ). keyAtEnd u (a .0) n (b .1 .1 .0)) f in

@@ -10,7 +10,8 @@ use borrow.Fn.Kinds.{PK, RK, Out, Dens, resT}
 use Rattle.wire.specs.Choose.{choose}
 use Rattle.wire.specs.Numbers.{numberOf}
 use Rattle.wire.specs.declared.Refusal.{Refusal}
-use Rattle.wire.specs.declared.Refusal.the-variants.{Truncated, InvalidVarint, TagOverflowed, TooLong, NoRoom, BadRecord, OutOfOrder, BadCap, WrongWireType, OutOfRange, Repeated, MissingField}
+use Rattle.wire.specs.declared.Refusal.the-variants.{Truncated, InvalidVarint, TagOverflowed, TooLong, NoRoom, BadRecord, OutOfOrder, BadCap}
+use Rattle.wire.specs.declared.Refusal.the-variants.{WrongWireType, OutOfRange, Repeated, MissingField}
 use Rattle.demands.specs.Calls.{Every}
 
 pub record Rule : Type 0 where
@@ -48,7 +49,8 @@ pub record Ordered (rs : List Rule) (n : ℕ) : Type 0 where
   pub accepts : None rs → n ≡ 0
 
 -- of a function, by its contract: every outcome's number is told by an order over the arguments
-abbrev pub Numbered : (l : ℕ) (ps : List (PK l)) (r : RK l) → Out l ps r → ((κs : Lfts l) → resT r κs .Denot → ℕ) → ((κs : Lfts l) → Dens κs ps → List Rule) → Type 0
+abbrev pub Numbered : (l : ℕ) (ps : List (PK l)) (r : RK l) → Out l ps r → ((κs : Lfts l) → resT r κs .Denot → ℕ)
+    → ((κs : Lfts l) → Dens κs ps → List Rule) → Type 0
 Numbered l ps r post number rules = Every l ps r post (λ κs a x s. Ordered (rules κs a) (number κs x))
 
 -- ---- THE LAW

@@ -10,7 +10,8 @@ use Rattle.wire.specs.Choose.{choose}
 use Rattle.wire.specs.Limits.{messageLimit}
 use Rattle.wire.specs.Numbers.{numberOf}
 use Rattle.wire.specs.Varint.{Sum, Adds, Stops}
-use Rattle.wire.specs.Reading.{judged, varintAt, renamed, cappedAt, keyOf, keyAt, within, numberFrom, payloadFrom, valueAt, tagged, fieldOf, fieldAt, stepOf, stepAt, wireOf, Message, Fields, more, onward, ended, readsFrom, readMessage}
+use Rattle.wire.specs.Reading.{judged, varintAt, renamed, cappedAt, keyOf, keyAt, within, numberFrom, payloadFrom, valueAt, tagged, fieldOf, fieldAt}
+use Rattle.wire.specs.Reading.{stepOf, stepAt, wireOf, Message, Fields, more, onward, ended, readsFrom, readMessage}
 use Rattle.wire.specs.Reading as reading
 use Rattle.wire.specs.Theorem.{refused-fields}
 use Rattle.wire.specs.Skipping.{inSlice, pastNumber, pastPayload, pastAt, repeats, beyond, skipFrom}
@@ -36,7 +37,9 @@ use Rattle.wire.specs.declared.Reached.the-variants as reached
 use Rattle.message_early.specs.Early.{sightOf, sightAt, Stop, Ends, Above, also, stopsFrom}
 use Rattle.message_early.specs.Early as early
 use Rattle.demands.specs.Order.{Rule, when, firstOf, orElse, refused-first, first-behind}
-use Rattle.demands.specs.Rules.{runsOut, tooLarge, sumAt, varintRules, cappedRules, overflows, keyRules, bytesRules, payloadRules, valueRules, behindKey, fieldRules, endRules, stepRules, behindField, fieldsRules, messageRules, oneMore, fieldsRead, earlyRules, earlyRead, skippedPayload, pastRules, beyondRules, skipRules, recordRules, recordsRules, orderT}
+use Rattle.demands.specs.Rules.{runsOut, tooLarge, sumAt, varintRules, cappedRules, overflows, keyRules, bytesRules, payloadRules, valueRules}
+use Rattle.demands.specs.Rules.{behindKey, fieldRules, endRules, stepRules, behindField, fieldsRules, messageRules, oneMore, fieldsRead}
+use Rattle.demands.specs.Rules.{earlyRules, earlyRead, skippedPayload, pastRules, beyondRules, skipRules, recordRules, recordsRules, orderT}
 
 -- a test and its converse
 pub above : (a b : ℕ) → ltb b a ≡ not (leb a b)
@@ -102,7 +105,8 @@ varint-told s p = go (sumAt s p)
     go Stops = refl
     go (Adds v n) = large (ltb v (2 ^ 64)) refl
       where
-        large : (t : Bool) → ltb v (2 ^ 64) ≡ t → varintNumber (judged p (Adds v n)) ≡ firstOf (when (runsOut (Adds v n)) Truncated ∷ when (tooLarge (Adds v n)) InvalidVarint ∷ [])
+        large : (t : Bool) → ltb v (2 ^ 64) ≡ t
+            → varintNumber (judged p (Adds v n)) ≡ firstOf (when (runsOut (Adds v n)) Truncated ∷ when (tooLarge (Adds v n)) InvalidVarint ∷ [])
         large true t = rw (reaches v (2 ^ 64), t)
         large false t = rw (reaches v (2 ^ 64), t)
 
@@ -130,12 +134,14 @@ key-of : (last : ℕ) (v : VarintFound) → keyNumber (keyOf last v) ≡ orElse 
 key-of last (varintFound.Refused r) = sym (refused-first r _)
 key-of last (varintFound.Got k q) = go (ltb (last + k / 4) (2 ^ 32)) refl
   where
-    go : (t : Bool) → ltb (last + k / 4) (2 ^ 32) ≡ t → keyNumber (keyOf last (varintFound.Got k q)) ≡ firstOf (when (overflows last (varintFound.Got k q)) TagOverflowed ∷ [])
+    go : (t : Bool) → ltb (last + k / 4) (2 ^ 32) ≡ t
+        → keyNumber (keyOf last (varintFound.Got k q)) ≡ firstOf (when (overflows last (varintFound.Got k q)) TagOverflowed ∷ [])
     go true t = rw (reaches (last + k / 4) (2 ^ 32), t)
     go false t = rw (reaches (last + k / 4) (2 ^ 32), t)
 
 pub key-told : (s : List ℕ) (e p last : ℕ) → keyNumber (keyAt s e p last) ≡ firstOf (keyRules s e p last)
-key-told s e p last = key-of last (cappedAt s e p) ∙ behind (cappedRules s e p) (when (overflows last (cappedAt s e p)) TagOverflowed ∷ []) (capped-told s e p) refl
+key-told s e p last =
+    key-of last (cappedAt s e p) ∙ behind (cappedRules s e p) (when (overflows last (cappedAt s e p)) TagOverflowed ∷ []) (capped-told s e p) refl
 
 -- ---- values
 
@@ -199,7 +205,8 @@ more-number : (f : Field) (m : Message) → messageNumber (more f m) ≡ message
 more-number f (Fields fs) = refl
 more-number f (reading.Refused r p) = refl
 
-onward-told : (p : ℕ) (x : FieldFound) (go : Field → ℕ → Message) (rules : Field → ℕ → List Rule) → ((f : Field) (q : ℕ) → messageNumber (go f q) ≡ firstOf (rules f q))
+onward-told : (p : ℕ) (x : FieldFound) (go : Field → ℕ → Message) (rules : Field → ℕ → List Rule)
+    → ((f : Field) (q : ℕ) → messageNumber (go f q) ≡ firstOf (rules f q))
     → messageNumber (onward p x go) ≡ orElse (fieldNumber x) (firstOf (behindField x rules))
 onward-told p (fieldFound.Got f q) go rules h = more-number f (go f q) ∙ h f q
 onward-told p (fieldFound.Refused r) go rules h = sym (refused-first r _)
@@ -221,7 +228,8 @@ unfolding readMessage
 message-told s a e = fields-told (e - a) s e a a 0
 
 -- the fields of an accepted message are those that were read
-one-more : (p : ℕ) (x : FieldFound) (go : Field → ℕ → Message) (seen : Field → ℕ → List Field) → ((f : Field) (q : ℕ) (fs : List Field) → go f q ≡ Fields fs → seen f q ≡ fs)
+one-more : (p : ℕ) (x : FieldFound) (go : Field → ℕ → Message) (seen : Field → ℕ → List Field)
+    → ((f : Field) (q : ℕ) (fs : List Field) → go f q ≡ Fields fs → seen f q ≡ fs)
     → (fs : List Field) → onward p x go ≡ Fields fs → oneMore x seen ≡ fs
 one-more p (fieldFound.Refused r) go seen h fs e = refused-fields r p fs e
 one-more p (fieldFound.Got f q) go seen h fs e = on (go f q) refl e
@@ -269,7 +277,8 @@ also-seen f (Ends fs) gs h = ap (λ (l : List Field). f ∷ l) h
 also-seen f (Above fs p) gs h = ap (λ (l : List Field). f ∷ l) h
 also-seen f (early.Refused r) gs h = tt
 
-stop-onward : (p : ℕ) (x : FieldFound) (go : Field → ℕ → Stop) (rules : Field → ℕ → List Rule) → ((f : Field) (q : ℕ) → stopNumber (go f q) ≡ firstOf (rules f q))
+stop-onward : (p : ℕ) (x : FieldFound) (go : Field → ℕ → Stop) (rules : Field → ℕ → List Rule)
+    → ((f : Field) (q : ℕ) → stopNumber (go f q) ≡ firstOf (rules f q))
     → stopNumber (early.onward p (sightOf x) go) ≡ orElse (fieldNumber x) (firstOf (behindField x rules))
 stop-onward p (fieldFound.Got f q) go rules h = also-number f (go f q) ∙ h f q
 stop-onward p (fieldFound.Refused r) go rules h = sym (refused-first r _)
@@ -292,7 +301,8 @@ stop-told (suc k) tag s p last = go (λ f q. stop-told k tag s q (f .tag)) (ltb 
     go ih true a false b =
         rw (a, b)
         (stop-onward p (fieldAt s (length s) p last) (λ f q. stopsFrom k tag s q (f .tag)) (λ f q. earlyRules k tag s q (f .tag)) ih
-        ∙ behind (fieldRules s (length s) p last) (behindField (fieldAt s (length s) p last) (λ f q. earlyRules k tag s q (f .tag))) (field-told s (length s) p last) refl)
+        ∙ behind (fieldRules s (length s) p last) (behindField (fieldAt s (length s) p last) (λ f q. earlyRules k tag s q (f .tag)))
+        (field-told s (length s) p last) refl)
 
 pub stop-seen : (k tag : ℕ) (s : List ℕ) (p last : ℕ) → Seen (stopsFrom k tag s p last) (earlyRead k tag s p last)
 unfolding sightAt
@@ -304,7 +314,8 @@ stop-seen (suc k) tag s p last = go (λ f q. stop-seen k tag s q (f .tag)) (ltb 
         → Seen (stopsFrom (suc k) tag s p last) (earlyRead (suc k) tag s p last)
     go ih false a b h = rw a refl
     go ih true a true b = rw (a, b) refl
-    go ih true a false b = rw (a, b) (seen-onward p (fieldAt s (length s) p last) (λ f q. stopsFrom k tag s q (f .tag)) (λ f q. earlyRead k tag s q (f .tag)) ih)
+    go ih true a false b =
+        rw (a, b) (seen-onward p (fieldAt s (length s) p last) (λ f q. stopsFrom k tag s q (f .tag)) (λ f q. earlyRead k tag s q (f .tag)) ih)
 
 -- ---- skipping
 
@@ -330,7 +341,8 @@ past-told s e p LengthDelimited = past-payload s (cappedAt s e p) ∙ behind (ca
 past-told s e p ThirtyTwoBit = in-slice s (p + 4)
 past-told s e p SixtyFourBit = in-slice s (p + 8)
 
-beyond-told : (s : List ℕ) (e : ℕ) (x : Reached) (go : ℕ → WireType → Reached) (rules : ℕ → WireType → List Rule) → ((q : ℕ) (w : WireType) → reachedNumber (go q w) ≡ firstOf (rules q w))
+beyond-told : (s : List ℕ) (e : ℕ) (x : Reached) (go : ℕ → WireType → Reached) (rules : ℕ → WireType → List Rule)
+    → ((q : ℕ) (w : WireType) → reachedNumber (go q w) ≡ firstOf (rules q w))
     → reachedNumber (beyond s e x go) ≡ orElse (reachedNumber x) (firstOf (beyondRules s e x rules))
 beyond-told s e (reached.Refused r) go rules h = sym (refused-first r _)
 beyond-told s e (reached.To q) go rules h = on (repeats s e q) refl
@@ -342,7 +354,8 @@ beyond-told s e (reached.To q) go rules h = on (repeats s e q) refl
 pub skip-told : (k : ℕ) (s : List ℕ) (e p : ℕ) (w : WireType) → reachedNumber (skipFrom k s e p w) ≡ firstOf (skipRules k s e p w)
 skip-told zero s e p w = past-told s e p w
 skip-told (suc k) s e p w =
-    beyond-told s e (pastAt s e p w) (skipFrom k s e) (skipRules k s e) (skip-told k s e) ∙ behind (pastRules s e p w) (beyondRules s e (pastAt s e p w) (skipRules k s e)) (past-told s e p w) refl
+    beyond-told s e (pastAt s e p w) (skipFrom k s e) (skipRules k s e) (skip-told k s e)
+    ∙ behind (pastRules s e p w) (beyondRules s e (pastAt s e p w) (skipRules k s e)) (past-told s e p w) refl
 
 -- ---- records
 
@@ -368,11 +381,13 @@ records-told zero n t = refl
 records-told (suc i) n t = then-number (tested i n t) _ i ∙ behind (recordsRules i n t) (recordRules n t i) (records-told i n t) (judge-told n t i)
 
 -- the tests of order T, and what comes behind them
-pub order-t : (s t : List ℕ) (c n : ℕ) (rest : List Rule) → n ≡ firstOf rest → orElse (verdictNumber (checked messageLimit s t c)) n ≡ firstOf (orderT s t c rest)
+pub order-t : (s t : List ℕ) (c n : ℕ) (rest : List Rule) → n ≡ firstOf rest
+    → orElse (verdictNumber (checked messageLimit s t c)) n ≡ firstOf (orderT s t c rest)
 unfolding checked
 order-t s t c n rest h = go (leb (length s) messageLimit) refl (leb c (room t)) refl
   where
-    go : (a : Bool) → leb (length s) messageLimit ≡ a → (b : Bool) → leb c (room t) ≡ b → orElse (verdictNumber (checked messageLimit s t c)) n ≡ firstOf (orderT s t c rest)
+    go : (a : Bool) → leb (length s) messageLimit ≡ a → (b : Bool) → leb c (room t) ≡ b
+        → orElse (verdictNumber (checked messageLimit s t c)) n ≡ firstOf (orderT s t c rest)
     go true a true b = rw (above (length s) messageLimit, above c (room t), a, b) (behind (recordsRules c (length s) t) rest (records-told c (length s) t) h)
     go true a false b = rw (above (length s) messageLimit, above c (room t), a, b)
     go false a b x = rw (above (length s) messageLimit, a)

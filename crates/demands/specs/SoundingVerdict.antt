@@ -82,7 +82,9 @@ module _ (number : Single → ℕ) (refused : (r : Refusal) → number (single.R
   sent-told (f ∷ []) = go (f .value) refl
     where
       go : (v : Value) → f .value ≡ v → number (oneSent (f ∷ [])) ≡ firstOf (sentRules (f ∷ []) ++ rest (f ∷ []))
-      go (Varint v) e = ap (λ (w : Value). number (values.numberOf w)) e ∙ one f v e ∙ sym (ap (λ (w : Value). firstOf (when (not (eqb (kindWord w) 0)) WrongWireType ∷ rest (f ∷ []))) e)
+      go (Varint v) e =
+          ap (λ (w : Value). number (values.numberOf w)) e ∙ one f v e
+          ∙ sym (ap (λ (w : Value). firstOf (when (not (eqb (kindWord w) 0)) WrongWireType ∷ rest (f ∷ []))) e)
       go (LengthDelimited p n) e = rw e (refused _)
       go (ThirtyTwoBit v) e = rw e (refused _)
       go (SixtyFourBit v) e = rw e (refused _)
@@ -125,7 +127,8 @@ module _ (number : Message → ℕ) (refused : (r : Refusal) (p : ℕ) → numbe
   entered-told : (s : List ℕ) → number (entered s) ≡ firstOf (orderR s 0 (length s) (messageRules s 0 (length s) ++ rules (fieldsIn s 0 (length s))))
   unfolding entered readMessage
   entered-told s =
-      order-r number (λ r. reading.Refused r 0) (λ r. refused r 0) s 0 (length s) (readMessage s 0 (length s)) (messageRules s 0 (length s) ++ rules (fieldsIn s 0 (length s)))
+      order-r number (λ r. reading.Refused r 0) (λ r. refused r 0) s 0 (length s) (readMessage s 0 (length s))
+      (messageRules s 0 (length s) ++ rules (fieldsIn s 0 (length s)))
       (go (readMessage s 0 (length s)) refl ∙ behind (messageRules s 0 (length s)) (rules (fieldsIn s 0 (length s))) (message-told s 0 (length s)) refl)
     where
       go : (m : Message) → readMessage s 0 (length s) ≡ m → number m ≡ orElse (messageNumber m) (firstOf (rules (fieldsIn s 0 (length s))))
@@ -170,7 +173,9 @@ also-told (levelFound.Refused r) ls = sym (refused-first r _)
 
 each-told : (s : List ℕ) (gs : List Field) → levelsNumber (each (opened s) gs) ≡ firstOf (eachRules s gs)
 each-told s [] = refl
-each-told s (g ∷ gs) = also-told (levelIn (opened s) (g .value)) (each (opened s) gs) ∙ behind (levelInRules s (g .value)) (eachRules s gs) (level-in-told s (g .value)) (each-told s gs)
+each-told s (g ∷ gs) =
+    also-told (levelIn (opened s) (g .value)) (each (opened s) gs)
+    ∙ behind (levelInRules s (g .value)) (eachRules s gs) (level-in-told s (g .value)) (each-told s gs)
 
 -- ---- a sounding
 
@@ -190,7 +195,8 @@ room-told t n x y e f = go (leb n (levelRoom t)) refl
 
 -- station, launch, n levels, the room
 stored-told : (t : List ℕ) (x y : NumberFound) (ls : Levels) (n : ℕ) → ((ks : List Level) → ls ≡ All ks → length ks ≡ n)
-    → soundingNumber t (judged (headOf x y) ls) ≡ orElse (foundNumber x) (orElse (foundNumber y) (orElse (levelsNumber ls) (firstOf (when (ltb (levelRoom t) n) NoRoom ∷ []))))
+    → soundingNumber t (judged (headOf x y) ls) ≡ orElse (foundNumber x)
+    (orElse (foundNumber y) (orElse (levelsNumber ls) (firstOf (when (ltb (levelRoom t) n) NoRoom ∷ []))))
 stored-told t (numberFound.Refused r) y ls n h = sym (refused-first r _)
 stored-told t (numberFound.Got s) (numberFound.Refused r) ls n h = sym (refused-first r _)
 stored-told t (numberFound.Got s) (numberFound.Got l) (Refused r) n h = sym (refused-first r _)
@@ -213,7 +219,8 @@ sounding-refused : (s t : List ℕ) (r : Refusal) (p : ℕ) → soundingNumber t
 unfolding judge head levels sent between
 sounding-refused s t r p = refl
 
-pub read-sounding-number : Numbered 2 read-sounding.ps read-sounding.r read-sounding-reads.Post (λ κs x. soundingTold x .number) (λ κs a. readSoundingOrder (now (a .0)) (now (a .1 .0)))
+pub read-sounding-number : Numbered 2 read-sounding.ps read-sounding.r read-sounding-reads.Post (λ κs x. soundingTold x .number)
+    (λ κs a. readSoundingOrder (now (a .0)) (now (a .1 .0)))
 unfolding readSounding
 read-sounding-number κs a x e p =
     let s = now (a .0) in

@@ -8,7 +8,7 @@ use mathlib.Core.List.{List}
 use Rattle.message_table.specs.Into.{Outcome}
 use Rattle.write_message.specs.Writing.{Writing}
 use Rattle.write_insertion.specs.Insertion.{Insertion}
-use Rattle.entry_answer.specs.Told.{putTold, varintTold, moreTold, measuredTold, keyTold, valueTold, skippedTold, stepTold, readTold, pickedTold, severalTold}
+use Rattle.entry_answer.specs.Told.{putTold, varintTold, moreTold, keyLenTold, keyTold, valueTold, skippedTold, stepTold, readTold, pickedTold, severalTold}
 use Rattle.entry_answer.specs.Told.{earlyTold, writtenTold, insertedTold}
 use Rattle.entry_answer.specs.declared.More.{More}
 use Rattle.entry_answer.specs.declared.Step.{Step}
@@ -171,8 +171,8 @@ pub prepend-key-number : Numbered 1 prepend-key.ps prepend-key.r prepend-key-rea
     (λ κs a. putKeyOrder (a .0) (a .1 .0) (a .1 .1 .0) (now (a .1 .1 .1 .0)))
 prepend-key-number κs a x s p = by-order storedNumber p (prepend-key-order (a .0) (a .1 .0) (a .1 .1 .0) (now (a .1 .1 .1 .0)))
 
-pub key-len-number : Numbered 0 key-len.ps key-len.r key-len-reads.Post (λ κs x. measuredTold x .number) (λ κs a. keyLenOrder (a .0) (a .1 .0))
-key-len-number κs a x s p = by-order (λ y. measuredTold y .number) p (key-len-order (a .0) (a .1 .0))
+pub key-len-number : Numbered 0 key-len.ps key-len.r key-len-reads.Post (λ κs x. keyLenTold x .number) (λ κs a. keyLenOrder (a .0) (a .1 .0))
+key-len-number κs a x s p = by-order (λ y. keyLenTold y .number) p (key-len-order (a .0) (a .1 .0))
 
 -- ---- records written, measured, inserted
 

@@ -24,8 +24,8 @@ use Rattle.entry_answer.specs.declared.Step.{Step}
 use Rattle.entry_answer.specs.declared.Step.the-variants as step
 use Rattle.entry_answer.specs.declared.More.{More}
 use Rattle.entry_answer.specs.declared.More.the-variants as more
-use Rattle.entry_answer.specs.declared.Measured.{Measured}
-use Rattle.entry_answer.specs.declared.Measured.the-variants as measured
+use Rattle.entry_answer.specs.declared.KeyLength.{KeyLength}
+use Rattle.entry_answer.specs.declared.KeyLength.the-variants as measured
 use Rattle.entry_answer.specs.declared.Picked.{Picked}
 use Rattle.entry_answer.specs.declared.Picked.the-variants as picked
 use Rattle.entry_answer.specs.declared.Several as several
@@ -49,9 +49,9 @@ abbrev pub varintTold : VarintRead → Varint
 varintTold (varintRead.Got v q) = record { number = 0; value = v; place = q }
 varintTold (varintRead.Refused r p) = record { number = numberOf r; value = 0; place = p }
 
-abbrev pub measuredTold : Measured → Number
-measuredTold (measured.Length n) = record { number = 0; value = n }
-measuredTold (measured.Refused r) = record { number = numberOf r; value = 0 }
+abbrev pub keyLenTold : KeyLength → Number
+keyLenTold (measured.Length n) = record { number = 0; value = n }
+keyLenTold (measured.Refused r) = record { number = numberOf r; value = 0 }
 
 -- Rule R5: a key: refused, the last tag given
 pub record Key : Type 0 where

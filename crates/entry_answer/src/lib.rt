@@ -50,7 +50,7 @@ pub enum Step {
 }
 
 // A length, or why there is none.
-pub enum Measured {
+pub enum KeyLength {
     Length(usize),
     Refused(Refusal),
 }

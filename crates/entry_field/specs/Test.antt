@@ -59,12 +59,15 @@ module _ (s : List ℕ) (at e last : ℕ) where
   unfolding moreOf stepAt
   by-place = go (ltb at e) refl (eqb at e) refl
     where
-      go : (a : Bool) → ltb at e ≡ a → (b : Bool) → eqb at e ≡ b → stepAnswer at last (stepAt s e at last) ≡ byTest at last (moreOf at e) (fieldStep s at e last)
+      go : (a : Bool) → ltb at e ≡ a → (b : Bool) → eqb at e ≡ b
+          → stepAnswer at last (stepAt s e at last) ≡ byTest at last (moreOf at e) (fieldStep s at e last)
       go true a b x = rw a
       go false a true x = rw (a, x)
       go false a false x = rw (a, x)
 
-  by-gate : (g : Gated) → through g (λ r. step.Refused r at last) (stepAnswer at last (stepAt s e at last)) ≡ byTest at last (through g more.Refused (moreOf at e)) (fieldStep s at e last)
+  by-gate : (g : Gated)
+      → through g (λ r. step.Refused r at last) (stepAnswer at last (stepAt s e at last)) ≡ byTest at last (through g more.Refused (moreOf at e))
+      (fieldStep s at e last)
   by-gate Open = by-place
   by-gate (Shut r) = refl
 

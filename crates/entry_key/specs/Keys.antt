@@ -18,8 +18,8 @@ use Rattle.entry_answer.specs.Stores.{Stored, atFront, atEnd}
 use Rattle.entry_answer.specs.declared.Put.the-variants as put
 use Rattle.entry_answer.specs.declared.KeyRead.{KeyRead}
 use Rattle.entry_answer.specs.declared.KeyRead.the-variants as keyRead
-use Rattle.entry_answer.specs.declared.Measured.{Measured}
-use Rattle.entry_answer.specs.declared.Measured.the-variants as measured
+use Rattle.entry_answer.specs.declared.KeyLength.{KeyLength}
+use Rattle.entry_answer.specs.declared.KeyLength.the-variants as measured
 
 -- ---- read
 
@@ -43,7 +43,7 @@ unfoldable pub keyAtEnd : List ℕ → ℕ → ℕ → WireType → Stored
 keyAtEnd b last tag w = choose (leb last tag) (atEnd b (keyBytes last tag w)) (record { answer = put.Refused OutOfOrder; buf = b })
 
 -- Rules E6 and K5: measured without its wire type, which never changes the length
-unfoldable pub keyLen : ℕ → ℕ → Measured
+unfoldable pub keyLen : ℕ → ℕ → KeyLength
 keyLen last tag = choose (leb last tag) (measured.Length (length (encode (4 * (tag - last))))) (measured.Refused OutOfOrder)
 
 -- the two cases of each: the tag falls, or the order is held

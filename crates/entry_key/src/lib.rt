@@ -2,8 +2,8 @@
 ghost use mathlib.Core.Path.{_≡_};
 ghost use Rattle.entry_key.specs.Keys.{decodeKey, keyAtFront, keyAtEnd, keyLen};
 use entry_answer::Gated;
+use entry_answer::KeyLength;
 use entry_answer::KeyRead;
-use entry_answer::Measured;
 use entry_answer::Put;
 use wire::KeyFound;
 use wire::Refusal;
@@ -52,11 +52,11 @@ pub fn prepend_key(last: u32, tag: u32, wire: WireType, buf: &mut [u8]) -> Put
 }
 
 // How many bytes a key takes, whatever its wire type; OutOfOrder for a tag below the last one.
-pub fn key_len(last: u32, tag: u32) -> Measured
+pub fn key_len(last: u32, tag: u32) -> KeyLength
     ensures { λ r. ⌜ r ≡ keyLen last tag ⌝ }
 {
     if tag < last {
-        return Measured::Refused(Refusal::OutOfOrder);
+        return KeyLength::Refused(Refusal::OutOfOrder);
     }
-    Measured::Length(field_key::key_len(last, tag))
+    KeyLength::Length(field_key::key_len(last, tag))
 }

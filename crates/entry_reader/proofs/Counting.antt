@@ -34,7 +34,8 @@ module _ (s : List ℕ) (p e last : ℕ) where
   unfolding stepEntry way
   field-of f q h = go (gated (length s) p e) refl (stepAt s e p last) refl h
     where
-      go : (g : Gated) → gated (length s) p e ≡ g → (x : Stepped) → stepAt s e p last ≡ x → through g (λ r. step.Refused r p last) (stepAnswer p last x) ≡ step.Field f q
+      go : (g : Gated) → gated (length s) p e ≡ g → (x : Stepped) → stepAt s e p last ≡ x
+          → through g (λ r. step.Refused r p last) (stepAnswer p last x) ≡ step.Field f q
           → (gated (length s) p e ≡ Open) × (stepAt s e p last ≡ stepped.Field f q)
       go (Shut r) a x b i = absurd (omega (arith, ap way i))
       go Open a (stepped.Field g r) b i = let y : g ≡ f = cc in let z : r ≡ q = cc in (a, b ∙ cc)
@@ -45,7 +46,8 @@ module _ (s : List ℕ) (p e last : ℕ) where
   unfolding stepEntry way
   end-of h = go (gated (length s) p e) refl (stepAt s e p last) refl h
     where
-      go : (g : Gated) → gated (length s) p e ≡ g → (x : Stepped) → stepAt s e p last ≡ x → through g (λ r. step.Refused r p last) (stepAnswer p last x) ≡ step.End
+      go : (g : Gated) → gated (length s) p e ≡ g → (x : Stepped) → stepAt s e p last ≡ x
+          → through g (λ r. step.Refused r p last) (stepAnswer p last x) ≡ step.End
           → (gated (length s) p e ≡ Open) × (stepAt s e p last ≡ stepped.End)
       go (Shut r) a x b i = absurd (omega (arith, ap way i))
       go Open a (stepped.Field g r) b i = absurd (omega (arith, ap way i))
@@ -57,7 +59,8 @@ module _ (s : List ℕ) (p e last : ℕ) where
   unfolding stepEntry way
   refusal-of r at t h = go (gated (length s) p e) refl (stepAt s e p last) refl h
     where
-      go : (g : Gated) → gated (length s) p e ≡ g → (x : Stepped) → stepAt s e p last ≡ x → through g (λ r. step.Refused r p last) (stepAnswer p last x) ≡ step.Refused r at t
+      go : (g : Gated) → gated (length s) p e ≡ g → (x : Stepped) → stepAt s e p last ≡ x
+          → through g (λ r. step.Refused r p last) (stepAnswer p last x) ≡ step.Refused r at t
           → (gated (length s) p e ≡ Shut r) ⊎ ((gated (length s) p e ≡ Open) × (stepAt s e p last ≡ stepped.Refused r))
       go (Shut y) a x b i = let z : y ≡ r = cc in inl (a ∙ cc)
       go Open a (stepped.Field g q) b i = absurd (omega (arith, ap way i))

@@ -54,7 +54,9 @@ module _ (κ : Lft) where
 
   -- what its three numbers do
   abbrev pub numbers : Reader → Fml
-  numbers d = owns (usize ∷ usize ∷ u32 ∷ []) (d .place, (d .end, (d .last, tt))) (vint w64 (d .place) ∷ [], (vint w64 (d .end) ∷ [], (vint w32 (d .last) ∷ [], tt)))
+  numbers d =
+      owns (usize ∷ usize ∷ u32 ∷ []) (d .place, (d .end, (d .last, tt)))
+      (vint w64 (d .place) ∷ [], (vint w64 (d .end) ∷ [], (vint w32 (d .last) ∷ [], tt)))
 
   abbrev parts : Reader → Values (T.the-type α .parts)
   parts d = (d .message, (d .place, (d .end, (d .last, tt))))
@@ -81,6 +83,8 @@ module _ (κ : Lft) where
     pub apart : (d : Reader) → ent 𝓤 (sem 𝓤 H A (held d)) (sep 𝓤 (sem 𝓤 H A (slice (d .message))) (sem 𝓤 H A (held d)))
     apart d =
         qed W (‵ (held d) ∷ []) ∵ use1 W (‵ (held d) ⊛ ‵ (held d)) (LL.copy (T.the-type α) (T′.the-copy α) 𝓤 H A W .twice d (T′.lowered d ∷ [])) $ split ! $
-        use1 W (given (T′.lowered d ∷ [] ≡ T′.lowered d ∷ []) (‵ (all-own (T.the-type α .parts) (T′.the-laws α) (parts d)))) (own-open 𝓤 H A W (T.the-type α) (T′.the-laws α) (parts d) (T′.lowered d)) $
-        learn ! (λ _. use1 W (‵ (ownAt (T.the-type α .parts) (T′.the-laws α) 0 (d .message)) ⊛ ‵ (rest (T.the-type α .parts) (T′.the-laws α) 0 (parts d))) (own-out 𝓤 H A W (T.the-type α .parts) (T′.the-laws α) 0 (parts d)) $ split ! $
+        use1 W (given (T′.lowered d ∷ [] ≡ T′.lowered d ∷ []) (‵ (all-own (T.the-type α .parts) (T′.the-laws α) (parts d))))
+        (own-open 𝓤 H A W (T.the-type α) (T′.the-laws α) (parts d) (T′.lowered d)) $
+        learn !
+        (λ _. use1 W (‵ (ownAt (T.the-type α .parts) (T′.the-laws α) 0 (d .message)) ⊛ ‵ (rest (T.the-type α .parts) (T′.the-laws α) 0 (parts d))) (own-out 𝓤 H A W (T.the-type α .parts) (T′.the-laws α) 0 (parts d)) $ split ! $
         move ! (1 ∷ []) $ drop ! $ frame ! $ done !)

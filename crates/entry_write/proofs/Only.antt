@@ -13,10 +13,12 @@ use Rattle.entry_write.proofs.encoded_len_message.Reads as encoded-len-
 use Rattle.entry_write.proofs.insert.Kinds as insert
 use Rattle.entry_write.proofs.insert.Reads as insert-reads
 
-pub encode-message-one : One 3 encode-message.ps encode-message.r encode-message-reads.Post {S = Writing} (λ κs r s. record { answer = r; buf = now (s .1 .1 .1 .0) })
+pub encode-message-one : One 3 encode-message.ps encode-message.r encode-message-reads.Post {S = Writing}
+    (λ κs r s. record { answer = r; buf = now (s .1 .1 .1 .0) })
 encode-message-one κs a x y s t p q = p ∙ sym q
 
-pub prepend-message-one : One 3 prepend-message.ps prepend-message.r prepend-message-reads.Post {S = Writing} (λ κs r s. record { answer = r; buf = now (s .1 .1 .1 .0) })
+pub prepend-message-one : One 3 prepend-message.ps prepend-message.r prepend-message-reads.Post {S = Writing}
+    (λ κs r s. record { answer = r; buf = now (s .1 .1 .1 .0) })
 prepend-message-one κs a x y s t p q = p ∙ sym q
 
 pub encoded-len-message-one : One 2 encoded-len-message.ps encoded-len-message.r encoded-len-message-reads.Post (λ κs r s. r)

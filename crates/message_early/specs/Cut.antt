@@ -84,4 +84,10 @@ module _ (s : List ℕ) (c : ℕ) (inside : c ≤ length s) where
       let x = field-found s e p last f q h in
       let k = x .key in
       let m = value-moves s e (x .middle) (x .wire) (f .value) q (x .value) in
-      rw (capped-cut p (k .key) (x .middle) (k .read) (omega (arith, m .0)), ← (k .tag), lt-ltb (f .tag) (2 ^ 32) (k .small), ← (k .wire), value-cut e (x .middle) (x .wire) (f .value) q (x .value) g)
+      rw (
+        capped-cut p (k .key) (x .middle) (k .read) (omega (arith, m .0)),
+        ← (k .tag),
+        lt-ltb (f .tag) (2 ^ 32) (k .small),
+        ← (k .wire),
+        value-cut e (x .middle) (x .wire) (f .value) q (x .value) g,
+      )

@@ -30,7 +30,8 @@ use Rattle.message_early.specs.declared.Sight.the-variants as sight
 -- ---- what stands behind a turn
 
 pub data Looks (t : ℕ) (s : List ℕ) (p last : ℕ) : Type 0 where
-  field : (f : Field) (q : ℕ) → above t (keyAt s (length s) p last) ≡ false → fieldAt s (length s) p last ≡ fieldFound.Got f q → sightAt t s p last ≡ sight.Field f q
+  field : (f : Field) (q : ℕ) → above t (keyAt s (length s) p last) ≡ false → fieldAt s (length s) p last ≡ fieldFound.Got f q
+      → sightAt t s p last ≡ sight.Field f q
       → Looks t s p last
   higher : above t (keyAt s (length s) p last) ≡ true → sightAt t s p last ≡ sight.Above → Looks t s p last
   refused : (r : Refusal) → fieldAt s (length s) p last ≡ fieldFound.Refused r → sightAt t s p last ≡ sight.Refused r → Looks t s p last
@@ -50,7 +51,8 @@ kind (sight.Field f q) = 0
 kind sight.Above = 1
 kind (sight.Refused r) = 2
 
-pub sight-field : (t : ℕ) (s : List ℕ) (p last : ℕ) (f : Field) (q : ℕ) → sightAt t s p last ≡ sight.Field f q → fieldAt s (length s) p last ≡ fieldFound.Got f q
+pub sight-field : (t : ℕ) (s : List ℕ) (p last : ℕ) (f : Field) (q : ℕ) → sightAt t s p last ≡ sight.Field f q
+    → fieldAt s (length s) p last ≡ fieldFound.Got f q
 sight-field t s p last f q h = go (looks t s p last)
   where
     go : Looks t s p last → fieldAt s (length s) p last ≡ fieldFound.Got f q
@@ -116,7 +118,8 @@ lastOf l (f ∷ fs) = lastOf (f .tag) fs
 
 pub data Meets (k t : ℕ) (s : List ℕ) (m p last : ℕ) : Type 0 where
   whole : (fs : List Field) → stopsFrom k t s p last ≡ Ends fs → UpTo t fs → readsFrom k s (length s) m p last ≡ Fields fs → Meets k t s m p last
-  cut : (fs : List Field) (h : ℕ) → stopsFrom k t s p last ≡ Above fs h → UpTo t fs → p ≤ h → h < length s → above t (keyAt s (length s) h (lastOf last fs)) ≡ true
+  cut : (fs : List Field) (h : ℕ) → stopsFrom k t s p last ≡ Above fs h → UpTo t fs → p ≤ h → h < length s
+      → above t (keyAt s (length s) h (lastOf last fs)) ≡ true
       → ((j n : ℕ) → h - p ≤ j → readsFrom j (take h s) h n p last ≡ Fields fs)
       → ((gs : List Field) → readsFrom k s (length s) m p last ≡ Fields gs → ofTag t gs ≡ ofTag t fs) → Meets k t s m p last
   refused : (r : Refusal) (i : ℕ) → stopsFrom k t s p last ≡ Refused r → readsFrom k s (length s) m p last ≡ reading.Refused r i → Meets k t s m p last
@@ -130,7 +133,8 @@ module _ (t : ℕ) (s : List ℕ) where
   meets zero m p last a b = meets-end zero m p last (omega arith)
   meets (suc k) m p last a b = go (ltb p (length s)) refl (looks t s p last) (meets k)
     where
-      go : (x : Bool) → ltb p (length s) ≡ x → Looks t s p last → ((n i l : ℕ) → i ≤ length s → length s - i ≤ k → Meets k t s n i l) → Meets (suc k) t s m p last
+      go : (x : Bool) → ltb p (length s) ≡ x → Looks t s p last → ((n i l : ℕ) → i ≤ length s → length s - i ≤ k → Meets k t s n i l)
+          → Meets (suc k) t s m p last
       go false x y ih = meets-end (suc k) m p last (omega (arith, ltb-false p (length s) x))
       go true x (higher b z) ih =
           let c = ltb-true p (length s) x in
@@ -168,7 +172,8 @@ module _ (t : ℕ) (s : List ℕ) where
 -- THE SAME FROM THE FRONT
 pub data Stopped (t : ℕ) (s : List ℕ) : Type 0 where
   at-end : (fs : List Field) → stop t s ≡ Ends fs → UpTo t fs → readMessage s 0 (length s) ≡ Fields fs → Stopped t s
-  at-key : (fs : List Field) (h : ℕ) → stop t s ≡ Above fs h → UpTo t fs → h < length s → above t (keyAt s (length s) h (lastOf 0 fs)) ≡ true → readMessage (take h s) 0 h ≡ Fields fs
+  at-key : (fs : List Field) (h : ℕ) → stop t s ≡ Above fs h → UpTo t fs → h < length s → above t (keyAt s (length s) h (lastOf 0 fs)) ≡ true
+      → readMessage (take h s) 0 h ≡ Fields fs
       → ((gs : List Field) → readMessage s 0 (length s) ≡ Fields gs → ofTag t gs ≡ ofTag t fs) → Stopped t s
   not-read : (r : Refusal) (i : ℕ) → stop t s ≡ Refused r → readMessage s 0 (length s) ≡ reading.Refused r i → Stopped t s
 

@@ -48,7 +48,8 @@ module _ (n : ℕ) (r : Record) where
   pub span-within : spanOf n r .start + spanOf n r .length ≤ n
   span-within = go (eqb (r .kind) 1) refl (ltb (r .tag) (2 ^ 32)) refl (leb (r .value + r .length) n) refl
     where
-      go : (a : Bool) → eqb (r .kind) 1 ≡ a → (b : Bool) → ltb (r .tag) (2 ^ 32) ≡ b → (c : Bool) → leb (r .value + r .length) n ≡ c → spanOf n r .start + spanOf n r .length ≤ n
+      go : (a : Bool) → eqb (r .kind) 1 ≡ a → (b : Bool) → ltb (r .tag) (2 ^ 32) ≡ b → (c : Bool) → leb (r .value + r .length) n ≡ c
+          → spanOf n r .start + spanOf n r .length ≤ n
       go false k b t c v = rw (span-kind (eqb-false (r .kind) 1 k)) (omega arith)
       go true k false t c v = rw (span-tag (eqb-true (r .kind) 1 k) (ltb-false (r .tag) (2 ^ 32) t)) (omega arith)
       go true k true t false v =

@@ -62,7 +62,9 @@ pub record Here (s : List ℕ) (e : ℕ) (goal : List ℕ) (p last i : ℕ) (t :
 module _ {s : List ℕ} {e : ℕ} {goal : List ℕ} {p last i : ℕ} {t : List ℕ} (w : Filling s e goal p last i t) where
   pub here : p < e → Here s e goal p last i t
   here a =
-      go (stands (w .k - 1) s e (w .m) p last (w .rest) (ap (λ (j : ℕ). readsFrom j s e (w .m) p last) (sym (positive (w .k) (omega (arith, w .fuel)))) ∙ w .read))
+      go
+      (stands (w .k - 1) s e (w .m) p last (w .rest)
+      (ap (λ (j : ℕ). readsFrom j s e (w .m) p last) (sym (positive (w .k) (omega (arith, w .fuel)))) ∙ w .read))
     where
       go : Stands (w .k - 1) s e p last (w .rest) → Here s e goal p last i t
       go (none b c) = absurd (omega arith)

@@ -64,7 +64,8 @@ value-kind s e p wireType.LengthDelimited v q h = ap kindWord (payload-got s e (
 value-kind s e p wireType.ThirtyTwoBit v q h = ap kindWord (within-got s e (p + 4) _ v q h .0)
 value-kind s e p wireType.SixtyFourBit v q h = ap kindWord (within-got s e (p + 8) _ v q h .0)
 
-number-read : (s : List ℕ) (e at : ℕ) (v : Value) (q : ℕ) → valueAt s e at wireType.Varint ≡ valueFound.Got v q → (n : ℕ) × (varintAt s at ≡ Got n q) × (v ≡ val.Varint n)
+number-read : (s : List ℕ) (e at : ℕ) (v : Value) (q : ℕ) → valueAt s e at wireType.Varint ≡ valueFound.Got v q
+    → (n : ℕ) × (varintAt s at ≡ Got n q) × (v ≡ val.Varint n)
 number-read s e at v q h =
     let x = number-got (cappedAt s e at) v q h in
     (x .0, renamed-got e at (varintAt s at) (x .0) q (x .1), x .2)
@@ -78,7 +79,8 @@ varinted-of s at (suc (suc k)) w h = absurd (omega arith)
 
 -- the words of each type, and how far the slice goes
 module _ (s : List ℕ) (at kind : ℕ) where
-  of-wire : (w : WireType) → wireOf kind ≡ w → (e : ℕ) (v : Value) (q : ℕ) → valueAt s e at (wireOf kind) ≡ valueFound.Got v q → valueAt s e at w ≡ valueFound.Got v q
+  of-wire : (w : WireType) → wireOf kind ≡ w → (e : ℕ) (v : Value) (q : ℕ) → valueAt s e at (wireOf kind) ≡ valueFound.Got v q
+      → valueAt s e at w ≡ valueFound.Got v q
   of-wire w k e v q h = ap (valueAt s e at) (sym k) ∙ h
 
   pub number-words : kind ≡ 0 → (n r : ℕ) → varintAt s at ≡ Got n r → Worded s at kind n 0 r
@@ -109,7 +111,8 @@ module _ (s : List ℕ) (at kind : ℕ) where
       rw (x .0) (g, refl, sym (x .1))
 
   pub four-inside : kind ≡ 2 → Valued s at kind → at + 4 ≤ length s
-  four-inside k w = within-got s (w .end) (at + 4) _ (w .value) (w .next) (of-wire wireType.ThirtyTwoBit (ap wireOf k) (w .end) (w .value) (w .next) (w .read)) .2
+  four-inside k w =
+      within-got s (w .end) (at + 4) _ (w .value) (w .next) (of-wire wireType.ThirtyTwoBit (ap wireOf k) (w .end) (w .value) (w .next) (w .read)) .2
 
   pub eight-words : 3 ≤ kind → (n : ℕ) → n ≡ number (take 8 (drop at s)) → Worded s at kind n 8 (at + 8)
   eight-words k n g e v q h =
@@ -117,4 +120,5 @@ module _ (s : List ℕ) (at kind : ℕ) where
       rw (x .0) (g, refl, sym (x .1))
 
   pub eight-inside : 3 ≤ kind → Valued s at kind → at + 8 ≤ length s
-  eight-inside k w = within-got s (w .end) (at + 8) _ (w .value) (w .next) (of-wire wireType.SixtyFourBit (wire-eight kind k) (w .end) (w .value) (w .next) (w .read)) .2
+  eight-inside k w =
+      within-got s (w .end) (at + 8) _ (w .value) (w .next) (of-wire wireType.SixtyFourBit (wire-eight kind k) (w .end) (w .value) (w .next) (w .read)) .2

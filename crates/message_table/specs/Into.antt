@@ -38,7 +38,8 @@ module _ (s : List ℕ) (start e : ℕ) (t : List ℕ) where
   unfolding readInto
   into-refused r p h = ap (landed e t) h
 
-  pub into-no-room : (fs : List Field) → readMessage s start e ≡ Fields fs → room t < length fs → readInto s start e t ≡ outcome (Refused NoRoom 0 (length fs)) t
+  pub into-no-room : (fs : List Field) → readMessage s start e ≡ Fields fs → room t < length fs
+      → readInto s start e t ≡ outcome (Refused NoRoom 0 (length fs)) t
   unfolding readInto
   into-no-room fs h g = ap (landed e t) h ∙ rw (lt-leb (length fs) (room t) g)
 

@@ -78,7 +78,8 @@ over b buf at p i us ws ys e f r =
     ∙ rw e (again b at us ws ys)
 
 module _ {b : List ℕ} {at : ℕ} {s : List ℕ} {from n : ℕ} {buf : List ℕ} {p q left : ℕ} (w : Copying b at s from n buf p q left) where
-  pub last-done : (k : ℕ) → left ≤ k → k ≤ n → {m : ℕ} {c : List ℕ} → _≡_ {A = Placed} (record { next = m; buf = c }) (putPart buf (at + n - k) s (from + n - k) k)
+  pub last-done : (k : ℕ) → left ≤ k → k ≤ n → {m : ℕ} {c : List ℕ}
+      → _≡_ {A = Placed} (record { next = m; buf = c }) (putPart buf (at + n - k) s (from + n - k) k)
       → _≡_ {A = Placed} (record { next = m; buf = c }) (putPart b at s from n)
   last-done k h g {m} {c} e =
       let us = take (n - k) (drop from s) in

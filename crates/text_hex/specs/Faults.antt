@@ -11,7 +11,8 @@ use lib.Seq.{sets, length-sets, length-take-le}
 use Rattle.wire.specs.Choose.{choose}
 use Rattle.text_digits.specs.Digits.{between, digitOf}
 use Rattle.text_digits.specs.DigitLaws.{Run, Inside, Outside, runs, figure, capital, small, strange, digital}
-use Rattle.text_hex.specs.Frame.{Decoded, Decodes, Fails, joined, decoded, joins, lineLimit, Framed, framed, tooLong, frameOf, above-limit, above-line, above-out, fitting}
+use Rattle.text_hex.specs.Frame.{Decoded, Decodes, Fails, joined, decoded, joins, lineLimit, Framed, framed, tooLong, frameOf, above-limit}
+use Rattle.text_hex.specs.Frame.{above-line, above-out, fitting}
 use Rattle.text_digits.specs.declared.Digit.{Digit}
 use Rattle.text_digits.specs.declared.Digit.the-variants.{Value, Other}
 use Rattle.text_hex.specs.declared.Frame.the-variants.{Bytes, Long, Hex}
@@ -84,7 +85,8 @@ fault-fails [] h = absurd (omega arith)
 fault-fails (c ∷ []) h = refl
 fault-fails (c ∷ d ∷ cs) h = go (joined (digitOf c) (digitOf d) (decoded cs)) refl (fault-fails cs)
   where
-    go : (r : Decoded) → joined (digitOf c) (digitOf d) (decoded cs) ≡ r → (0 < worst cs → decoded cs ≡ Fails) → joined (digitOf c) (digitOf d) (decoded cs) ≡ Fails
+    go : (r : Decoded) → joined (digitOf c) (digitOf d) (decoded cs) ≡ r → (0 < worst cs → decoded cs ≡ Fails)
+        → joined (digitOf c) (digitOf d) (decoded cs) ≡ Fails
     go (Decodes bs) e ih =
         let j = joins (digitOf c) (digitOf d) (decoded cs) bs e in
         let x : faultOf c ≡ 0 = ap wrong (j .first) in
@@ -173,7 +175,8 @@ half-frame line chars out k b e = go (leb chars lineLimit) refl (leb chars (leng
         let z : Bytes k ≡ Hex = ap (λ (x : Framed). x .answer) (e ∙ by-decoded f d) in
         let w : _≡_ {A = ℕ} 0 1 = cc in absurd (omega arith)
 
-    go : (s : Bool) → leb chars lineLimit ≡ s → (t : Bool) → leb chars (length line) ≡ t → (u : Bool) → leb (chars / 2) (length out) ≡ u → (2 * k ≤ lineLimit) × (k ≤ length b)
+    go : (s : Bool) → leb chars lineLimit ≡ s → (t : Bool) → leb chars (length line) ≡ t → (u : Bool) → leb (chars / 2) (length out) ≡ u
+        → (2 * k ≤ lineLimit) × (k ≤ length b)
     go false s t p u q = no-long (above-limit line chars out (leb-false chars lineLimit s))
     go true s false t u q = no-long (above-line line chars out (leb-true chars lineLimit s) (leb-false chars (length line) t))
     go true s true t false u =

@@ -98,7 +98,8 @@ module _ (v : ℤ) (f : SFits w64 v) (t : leZ (pos 0) (toZ w64 (ofZ w64 v)) ≡ 
   end : toZ w64 (ofZ w64 (pos 0 -ℤ toZ w64 (ofZ w64 (r′ +ℤ pos 1)))) ≡ pos m
   end = again _ flips ∙ flipped
 
-  pub casts′ : T (nonNeg (toZ w64 (ofZ w64 (pos 0 -ℤ toZ w64 (ofZ w64 (r′ +ℤ pos 1)))))) × Fits w64 (natAbs (toZ w64 (ofZ w64 (pos 0 -ℤ toZ w64 (ofZ w64 (r′ +ℤ pos 1))))))
+  pub casts′ : T (nonNeg (toZ w64 (ofZ w64 (pos 0 -ℤ toZ w64 (ofZ w64 (r′ +ℤ pos 1)))))) × Fits w64
+      (natAbs (toZ w64 (ofZ w64 (pos 0 -ℤ toZ w64 (ofZ w64 (r′ +ℤ pos 1))))))
   casts′ = rw end (tt, record { fits = omega (arith, small′) })
 
   pub doubles′ : Fits w64 (natAbs (toZ w64 (ofZ w64 (pos 0 -ℤ toZ w64 (ofZ w64 (r′ +ℤ pos 1))))) * 2)

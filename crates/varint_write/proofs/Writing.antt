@@ -81,7 +81,8 @@ pub prepended : (b : List ℕ) (end v n : ℕ) {c : List ℕ} → n ≡ length (
     → record { next = end - n; buf = c } ≡ prependAt b end (encode v)
 prepended b end v n l g h e = sym (prepend-roomy b end (encode v) g (omega arith) ∙ rw (← l, e))
 
-pub short-prepended : (b : List ℕ) (end v : ℕ) → v < 128 → end ≤ length b → 1 ≤ end → record { next = end - 1; buf = set b (end - 1) v } ≡ prependAt b end (encode v)
+pub short-prepended : (b : List ℕ) (end v : ℕ) → v < 128 → end ≤ length b → 1 ≤ end
+    → record { next = end - 1; buf = set b (end - 1) v } ≡ prependAt b end (encode v)
 short-prepended b end v h g i = prepended b end v 1 (sym (ap length (short v h))) g i (rw (short v h))
 
 pub long-prepended : (b : List ℕ) (end v n : ℕ) {m : ℕ} {c : List ℕ} → n ≡ length (encode v) → end ≤ length b → n ≤ end

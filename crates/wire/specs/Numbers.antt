@@ -1,7 +1,8 @@
 -- The numbers of refusals (rule R1) and of wire types (rule K2).
 use Prim.Native.Nat.{ℕ}
 use Rattle.wire.specs.declared.Refusal.{Refusal}
-use Rattle.wire.specs.declared.Refusal.the-variants.{Truncated, InvalidVarint, TagOverflowed, TooLong, NoRoom, BadRecord, OutOfOrder, BadCap, WrongWireType, OutOfRange, Repeated, MissingField}
+use Rattle.wire.specs.declared.Refusal.the-variants.{Truncated, InvalidVarint, TagOverflowed, TooLong, NoRoom, BadRecord, OutOfOrder, BadCap}
+use Rattle.wire.specs.declared.Refusal.the-variants.{WrongWireType, OutOfRange, Repeated, MissingField}
 use Rattle.wire.specs.declared.WireType.{WireType}
 use Rattle.wire.specs.declared.WireType.the-variants.{Varint, LengthDelimited, ThirtyTwoBit, SixtyFourBit}
 

@@ -8,7 +8,8 @@ use denote.Triple.Clauses.{AtExit}
 
 -- of a function with n lifetimes, parameters ps and result r, whose contract is post: what is seen of two outcomes, the answer and all
 -- that was lent, is one thing
-abbrev pub One : (n : ℕ) (ps : List (PK n)) (r : RK n) → Out n ps r → {S : Type 0} → ((κs : Lfts n) → resT r κs .Denot → AtExit (endedOf n ps r) κs → S) → Type 0
+abbrev pub One : (n : ℕ) (ps : List (PK n)) (r : RK n) → Out n ps r → {S : Type 0}
+    → ((κs : Lfts n) → resT r κs .Denot → AtExit (endedOf n ps r) κs → S) → Type 0
 One n ps r post seen =
     (κs : Lfts n) (a : Dens κs ps) (x y : resT r κs .Denot) (s t : AtExit (endedOf n ps r) κs) → post κs a x s → post κs a y t → seen κs x s ≡ seen κs y t
 

@@ -14,7 +14,8 @@ use Rattle.wire.specs.Numbers.{typeOf}
 use Rattle.wire.specs.Fixed.{fixed, number, length-fixed, number-fixed, fixed-number, number-small}
 use Rattle.wire.specs.Written.{Content, Number, Payload, Four, Eight, Item, type, writtenContent, writtenItem, GoodContent, GoodItem}
 use Rattle.wire.specs.Places.{part, shown, itemOf, join, behind, reach}
-use Rattle.wire.specs.Reading.{judged, varintAt, renamed, cappedAt, wireOf, keyOf, keyAt, within, numberFrom, payloadFrom, valueAt, tagged, fieldOf, fieldAt}
+use Rattle.wire.specs.Reading.{judged, varintAt, renamed, cappedAt, wireOf, keyOf, keyAt, within, numberFrom, payloadFrom, valueAt, tagged}
+use Rattle.wire.specs.Reading.{fieldOf, fieldAt}
 use Rattle.wire.specs.declared.Refusal.the-variants.{Truncated, InvalidVarint, TagOverflowed}
 use Rattle.wire.specs.declared.WireType.{WireType}
 use Rattle.wire.specs.declared.WireType.the-variants as wireType
@@ -268,7 +269,8 @@ value-back s e p (Eight n) t h g b =
 
 -- ---- fields
 
-tagged-got : (t : ℕ) (r : ValueFound) (f : Field) (q : ℕ) → tagged t r ≡ fieldFound.Got f q → (v : Value) × (r ≡ valueFound.Got v q) × (f ≡ record { tag = t; value = v })
+tagged-got : (t : ℕ) (r : ValueFound) (f : Field) (q : ℕ) → tagged t r ≡ fieldFound.Got f q
+    → (v : Value) × (r ≡ valueFound.Got v q) × (f ≡ record { tag = t; value = v })
 tagged-got t (valueFound.Got v i) f q e = let a : i ≡ q = cc in (v, ap (valueFound.Got v) a, cc)
 tagged-got t (valueFound.Refused r) f q e = let z : _≡_ {A = ℕ} 0 1 = cc in absurd (omega arith)
 
@@ -321,7 +323,8 @@ item-pos last i =
     let k = 4 * (i .tag - last) + type (i .content) in
     omega (arith, length-append (encode k) (writtenContent (i .content)), length-pos k, content-pos (i .content))
 
-pub field-back : (s : List ℕ) (e p last : ℕ) (i : Item) (t : List ℕ) → drop p s ≡ writtenItem last i ++ t → GoodItem last i → p + length (writtenItem last i) ≤ e
+pub field-back : (s : List ℕ) (e p last : ℕ) (i : Item) (t : List ℕ) → drop p s ≡ writtenItem last i ++ t → GoodItem last i
+    → p + length (writtenItem last i) ≤ e
     → (f : Field) × (fieldAt s e p last ≡ fieldFound.Got f (p + length (writtenItem last i))) × (itemOf s f ≡ i)
 unfolding fieldAt
 field-back s e p last i t h g b =

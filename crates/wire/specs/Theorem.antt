@@ -137,7 +137,8 @@ module _ (s : List ℕ) (start e : ℕ) where
       (record { good = x .1; bytes = x .0 }, x .2)
 
   -- a good list that is written so is read back
-  pub complete : start ≤ e → e ≤ length s → (is : List Item) → Written s start e is → (fs : List Field) × (readMessage s start e ≡ Fields fs) × (items s fs ≡ is)
+  pub complete : start ≤ e → e ≤ length s → (is : List Item) → Written s start e is
+      → (fs : List Field) × (readMessage s start e ≡ Fields fs) × (items s fs ≡ is)
   unfolding readMessage
   complete a b is w =
       let n = e - start in

@@ -8,7 +8,8 @@ use lib.ListN.{length, getD, length-append}
 use Rattle.wire.specs.Limits.{recordWords}
 use Rattle.wire.specs.Table.{room, recordAt}
 use Rattle.write_record.specs.Records.{tagBefore, Judged, Fine, Bad, judge, AllFine, First, tested, checked, recordBytes, recordSize, weigh, run, message}
-use Rattle.write_record.specs.RecordLaws.{Sound, good-sound, judge-fine, weighed-bad, weighed-bytes, first-stays, record-size, run-first, message-last, message-cut}
+use Rattle.write_record.specs.RecordLaws.{Sound, good-sound, judge-fine, weighed-bad, weighed-bytes, first-stays, record-size, run-first}
+use Rattle.write_record.specs.RecordLaws.{message-last, message-cut}
 use Rattle.write_message.specs.Writing.{spent}
 use Rattle.write_message.specs.WritingLaws.{checked-long, checked-count, checked-tests, Ready, ready-at}
 use Rattle.wire.specs.declared.Record.{Record}
@@ -119,7 +120,8 @@ pub backward-start : (b s t : List ℕ) (c : ℕ) → Backward b s t c b (length
 backward-start b s t c = let z : c - c ≡ 0 = omega arith in record { index = omega arith; put = rw z (spans-none b (length b)) }
 
 module _ {b s t : List ℕ} {c : ℕ} (y : Ready s t c) (z : length (message s t c) ≤ length b)
-    {buf : List ℕ} {start i : ℕ} (w : Backward b s t c buf start i) {r : Record} {prev : ℕ} (h : 0 < i) (q : r ≡ recordAt t (i - 1)) (p : prev ≡ tagBefore t (i - 1)) where
+    {buf : List ℕ} {start i : ℕ} (w : Backward b s t c buf start i) {r : Record} {prev : ℕ} (h : 0 < i) (q : r ≡ recordAt t (i - 1))
+    (p : prev ≡ tagBefore t (i - 1)) where
   one : suc (i - 1) ≡ i
   one = omega arith
 

@@ -13,7 +13,8 @@ use Rattle.wire.specs.Places.{items}
 use Rattle.wire.specs.Reading.{cappedAt, varintAt, valueAt, fieldAt, Fields, readsFrom, readMessage}
 use Rattle.wire.specs.ReadingLaws.{number-got, payload-got, within-got, value-took, field-found, field-moves}
 use Rattle.wire.specs.Theorem.{Stands, none, some, ended-fields, stands}
-use Rattle.wire.specs.Table.{kindWord, valueWord, lengthWord, recordOf, words, records, room, filled, recordAt, goodValue, good, length-records, record-behind, record-first, fields-records}
+use Rattle.wire.specs.Table.{kindWord, valueWord, lengthWord, recordOf, words, records, room, filled, recordAt, goodValue, good, length-records}
+use Rattle.wire.specs.Table.{record-behind, record-first, fields-records}
 use Rattle.write_record.specs.Records.{tagBefore, judge, Fine, AllFine, tested, checked, message}
 use Rattle.write_record.specs.RecordLaws.{judge-good}
 use Rattle.write_message.specs.Writing.{Writes, plan}
@@ -57,7 +58,8 @@ field-kept s b e p last f q h =
     let m = field-moves s e p last f q h in
     (m .2, rw (lt-ltb (f .tag) (2 ^ 32) (m .3)) (value-fits s b e (x .middle) (x .wire) (f .value) q (x .value)))
 
-message-kept : (k : ℕ) (s : List ℕ) (e m p last : ℕ) (fs : List Field) → Bytes s → e - p ≤ k → readsFrom k s e m p last ≡ Fields fs → KeptFrom (length s) last fs
+message-kept : (k : ℕ) (s : List ℕ) (e m p last : ℕ) (fs : List Field) → Bytes s → e - p ≤ k → readsFrom k s e m p last ≡ Fields fs
+    → KeptFrom (length s) last fs
 message-kept zero s e m p last fs b g r = go (ended-fields zero s e m p last fs r)
   where
     go : Stands zero s e p last fs → KeptFrom (length s) last fs

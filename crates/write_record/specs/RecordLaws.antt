@@ -17,7 +17,8 @@ use Rattle.wire.specs.Fixed.{fixed}
 use Rattle.wire.specs.Written.{type, writtenContent, writtenItem}
 use Rattle.wire.specs.Places.{shown, itemOf}
 use Rattle.wire.specs.Table.{recordAt, valueOf, fieldIn, goodValue, good}
-use Rattle.write_record.specs.Records.{tagBefore, Judged, Fine, Bad, judge, Verdict, AllFine, First, andThen, tested, valueBytes, recordBytes, valueSize, recordSize, weighValue, weigh, run, message}
+use Rattle.write_record.specs.Records.{tagBefore, Judged, Fine, Bad, judge, Verdict, AllFine, First, andThen, tested, valueBytes, recordBytes}
+use Rattle.write_record.specs.Records.{valueSize, recordSize, weighValue, weigh, run, message}
 use Rattle.wire.specs.declared.Record.{Record}
 use Rattle.wire.specs.declared.Refusal.{Refusal}
 use Rattle.wire.specs.declared.Refusal.the-variants.{BadRecord, OutOfOrder}

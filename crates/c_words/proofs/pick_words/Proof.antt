@@ -37,13 +37,17 @@ uncounted-requires-3 : tie.Need-uncounted-requires-3
 uncounted-requires-3 c κs = search needs
 
 returns : tie.Need-returns
-returns c = ap asPicked (c .uncounted .ensures ∙ ap uncountedOf (c .before .found-words .ensures)) ∙ sym (ap pickedTold (c .before .before .before .p .given .1))
+returns c =
+    ap asPicked (c .uncounted .ensures ∙ ap uncountedOf (c .before .found-words .ensures)) ∙ sym (ap pickedTold (c .before .before .before .p .given .1))
 
 returns-2 : tie.Need-returns-2
-returns-2 c = ap asPicked (c .uncounted2 .ensures ∙ ap uncountedOf (c .before .none-words .ensures)) ∙ sym (ap pickedTold (c .before .before .enum-told .given .1))
+returns-2 c =
+    ap asPicked (c .uncounted2 .ensures ∙ ap uncountedOf (c .before .none-words .ensures)) ∙ sym (ap pickedTold (c .before .before .enum-told .given .1))
 
 returns-3 : tie.Need-returns-3
-returns-3 c = ap asPicked (c .uncounted3 .ensures ∙ ap uncountedOf (c .before .none-words2 .ensures)) ∙ rw (c .before .before .number-of .ensures) (sym (ap pickedTold (c .before .before .before .before .p2 .given .1)))
+returns-3 c =
+    ap asPicked (c .uncounted3 .ensures ∙ ap uncountedOf (c .before .none-words2 .ensures))
+    ∙ rw (c .before .before .number-of .ensures) (sym (ap pickedTold (c .before .before .before .before .p2 .given .1)))
 
 pub pick-words-spec : {M : Type 1} → statement M
 pick-words-spec =

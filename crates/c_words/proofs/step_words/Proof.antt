@@ -39,4 +39,17 @@ returns-3 : tie.Need-returns-3
 returns-3 c = c .no-field2 .ensures ∙ rw (c .before .number-of .ensures) (sym (ap (stepTold _ _) (c .before .before .before .k2 .given .1)))
 
 pub step-words-spec : {M : Type 1} → statement M
-step-words-spec = tie.close (tie.spec enum-known-k value-words-requires cast-t12 enum-told no-field-requires enum-known-k-2 number-of-requires no-field-requires-2 returns returns-2 returns-3)
+step-words-spec =
+    tie.close
+    (tie.spec
+    enum-known-k
+    value-words-requires
+    cast-t12
+    enum-told
+    no-field-requires
+    enum-known-k-2
+    number-of-requires
+    no-field-requires-2
+    returns
+    returns-2
+    returns-3)

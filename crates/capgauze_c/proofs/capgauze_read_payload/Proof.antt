@@ -16,7 +16,10 @@ same-length : tie.Need-same-length
 same-length c = search needs
 
 returns : tie.Need-returns
-returns c = let d = c .before .before in d .capgauze-read-message .ensures ∙ ap outcomeTold (payload-read _ _ _ _ (part-bytes _ _ (d .before .before .payload-of .result) (d .before .before .payload-of .ensures)))
+returns c =
+    let d = c .before .before in
+    d .capgauze-read-message .ensures
+    ∙ ap outcomeTold (payload-read _ _ _ _ (part-bytes _ _ (d .before .before .payload-of .result) (d .before .before .payload-of .ensures)))
 
 pub capgauze-read-payload-spec : {M : Type 1} → statement M
 capgauze-read-payload-spec = tie.close (tie.spec payload-of-requires capgauze-read-message-requires same-length returns)

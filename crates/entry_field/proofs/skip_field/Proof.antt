@@ -30,11 +30,19 @@ enum-known-r-2 c = search needs
 
 returns-2 : tie.Need-returns-2
 unfolding skipField
-returns-2 c = let d = c .before .before .before in sym (through-open _ _ (sym (d .before .before .before .gate .ensures) ∙ d .before .enum-told .given .1) ∙ ap (skipAnswer _) (sym (d .skip-field .ensures) ∙ c .before .q .given .1))
+returns-2 c =
+    let d = c .before .before .before in
+    sym
+    (through-open _ _ (sym (d .before .before .before .gate .ensures) ∙ d .before .enum-told .given .1)
+    ∙ ap (skipAnswer _) (sym (d .skip-field .ensures) ∙ c .before .q .given .1))
 
 returns-3 : tie.Need-returns-3
 unfolding skipField
-returns-3 c = let d = c .before .before .before in sym (through-open _ _ (sym (d .before .before .before .gate .ensures) ∙ d .before .enum-told .given .1) ∙ ap (skipAnswer _) (sym (d .skip-field .ensures) ∙ c .before .r2 .given .1))
+returns-3 c =
+    let d = c .before .before .before in
+    sym
+    (through-open _ _ (sym (d .before .before .before .gate .ensures) ∙ d .before .enum-told .given .1)
+    ∙ ap (skipAnswer _) (sym (d .skip-field .ensures) ∙ c .before .r2 .given .1))
 
 pub skip-field-spec : {M : Type 1} → statement M
 skip-field-spec = tie.close (tie.spec gate-requires enum-known-r returns enum-told skip-field-requires enum-known-q enum-known-r-2 returns-2 returns-3)

@@ -33,15 +33,40 @@ enum-known-r-2 c = search needs
 
 returns-2 : tie.Need-returns-2
 unfolding stepEntry
-returns-2 c = let d = c .before .before .before in sym (through-open _ _ (sym (d .before .before .before .gate .ensures) ∙ d .before .enum-told .given .1) ∙ ap (stepAnswer _ _) (sym (d .step-from .ensures) ∙ c .before .f .given .1))
+returns-2 c =
+    let d = c .before .before .before in
+    sym
+    (through-open _ _ (sym (d .before .before .before .gate .ensures) ∙ d .before .enum-told .given .1)
+    ∙ ap (stepAnswer _ _) (sym (d .step-from .ensures) ∙ c .before .f .given .1))
 
 returns-3 : tie.Need-returns-3
 unfolding stepEntry
-returns-3 c = let d = c .before .before in sym (through-open _ _ (sym (d .before .before .before .gate .ensures) ∙ d .before .enum-told .given .1) ∙ ap (stepAnswer _ _) (sym (d .step-from .ensures) ∙ c .enum-told2 .given .1))
+returns-3 c =
+    let d = c .before .before in
+    sym
+    (through-open _ _ (sym (d .before .before .before .gate .ensures) ∙ d .before .enum-told .given .1)
+    ∙ ap (stepAnswer _ _) (sym (d .step-from .ensures) ∙ c .enum-told2 .given .1))
 
 returns-4 : tie.Need-returns-4
 unfolding stepEntry
-returns-4 c = let d = c .before .before .before in sym (through-open _ _ (sym (d .before .before .before .gate .ensures) ∙ d .before .enum-told .given .1) ∙ ap (stepAnswer _ _) (sym (d .step-from .ensures) ∙ c .before .r2 .given .1))
+returns-4 c =
+    let d = c .before .before .before in
+    sym
+    (through-open _ _ (sym (d .before .before .before .gate .ensures) ∙ d .before .enum-told .given .1)
+    ∙ ap (stepAnswer _ _) (sym (d .step-from .ensures) ∙ c .before .r2 .given .1))
 
 pub step-at-spec : {M : Type 1} → statement M
-step-at-spec = tie.close (tie.spec gate-requires enum-known-r returns enum-told step-from-requires enum-known-f enum-told-2 enum-known-r-2 returns-2 returns-3 returns-4)
+step-at-spec =
+    tie.close
+    (tie.spec
+    gate-requires
+    enum-known-r
+    returns
+    enum-told
+    step-from-requires
+    enum-known-f
+    enum-told-2
+    enum-known-r-2
+    returns-2
+    returns-3
+    returns-4)

@@ -30,11 +30,19 @@ enum-known-r-2 c = search needs
 
 returns-2 : tie.Need-returns-2
 unfolding decodeKey
-returns-2 c = let d = c .before .before .before in sym (through-open _ _ (sym (d .before .before .before .gate .ensures) ∙ d .before .enum-told .given .1) ∙ ap (keyAnswer _ _) (sym (d .decode-key .ensures) ∙ c .before .k .given .1))
+returns-2 c =
+    let d = c .before .before .before in
+    sym
+    (through-open _ _ (sym (d .before .before .before .gate .ensures) ∙ d .before .enum-told .given .1)
+    ∙ ap (keyAnswer _ _) (sym (d .decode-key .ensures) ∙ c .before .k .given .1))
 
 returns-3 : tie.Need-returns-3
 unfolding decodeKey
-returns-3 c = let d = c .before .before .before in sym (through-open _ _ (sym (d .before .before .before .gate .ensures) ∙ d .before .enum-told .given .1) ∙ ap (keyAnswer _ _) (sym (d .decode-key .ensures) ∙ c .before .r2 .given .1))
+returns-3 c =
+    let d = c .before .before .before in
+    sym
+    (through-open _ _ (sym (d .before .before .before .gate .ensures) ∙ d .before .enum-told .given .1)
+    ∙ ap (keyAnswer _ _) (sym (d .decode-key .ensures) ∙ c .before .r2 .given .1))
 
 pub decode-key-spec : {M : Type 1} → statement M
 decode-key-spec = tie.close (tie.spec gate-requires enum-known-r returns enum-told decode-key-requires enum-known-k enum-known-r-2 returns-2 returns-3)

@@ -20,14 +20,17 @@ same-length c = search needs
 
 returns-2 : tie.Need-returns-2
 unfolding atFront
-returns-2 c = puts-none (puts-front _ _ (length-pos _) _ _ (c .before .before .before .put-key .ensures)) (omega arith) ∙ sym (front-order _ _ _ _ (omega arith))
+returns-2 c =
+    puts-none (puts-front _ _ (length-pos _) _ _ (c .before .before .before .put-key .ensures)) (omega arith) ∙ sym (front-order _ _ _ _ (omega arith))
 
 same-length-2 : tie.Need-same-length-2
 same-length-2 c = search needs
 
 returns-3 : tie.Need-returns-3
 unfolding atFront
-returns-3 c = puts-done (puts-front _ _ (length-pos _) _ _ (c .before .before .before .put-key .ensures)) (λ z. c .if2 .left (omega arith)) ∙ sym (front-order _ _ _ _ (omega arith))
+returns-3 c =
+    puts-done (puts-front _ _ (length-pos _) _ _ (c .before .before .before .put-key .ensures)) (λ z. c .if2 .left (omega arith))
+    ∙ sym (front-order _ _ _ _ (omega arith))
 
 pub encode-key-spec : {M : Type 1} → statement M
 encode-key-spec = tie.close (tie.spec returns put-key-requires same-length returns-2 same-length-2 returns-3)

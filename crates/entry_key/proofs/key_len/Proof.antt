@@ -1,7 +1,7 @@
 -- The order of tags, then the core.
 use mathlib.Core.Path.{_∙_, ap, sym}
 use native.Mathlib.Omega.{arith}
-use Rattle.entry_answer.specs.declared.Measured.the-variants.{Length}
+use Rattle.entry_answer.specs.declared.KeyLength.the-variants.{Length}
 use Rattle.entry_key.specs.Keys.{len-falls, len-order}
 use borrow.Author.Needs.{needs}
 use Rattle.entry_key.proofs.key_len.Statement.{statement}

@@ -21,7 +21,8 @@ same-length c = search needs
 
 returns-2 : tie.Need-returns-2
 unfolding atEnd
-returns-2 c = puts-none (puts-end _ _ (length-pos _) _ _ (c .before .before .before .prepend-key .ensures)) (omega arith) ∙ sym (end-order _ _ _ _ (omega arith))
+returns-2 c =
+    puts-none (puts-end _ _ (length-pos _) _ _ (c .before .before .before .prepend-key .ensures)) (omega arith) ∙ sym (end-order _ _ _ _ (omega arith))
 
 sub-t12 : tie.Need-sub-t12
 sub-t12 c = prepend-starts _ _ _ (c .before .before .before .prepend-key .ensures)
@@ -31,7 +32,9 @@ same-length-2 c = search needs
 
 returns-3 : tie.Need-returns-3
 unfolding atEnd
-returns-3 c = puts-done (puts-end _ _ (length-pos _) _ _ (c .before .before .before .prepend-key .ensures)) (λ z. c .if2 .left (omega (arith, sub-t12 c))) ∙ sym (end-order _ _ _ _ (omega arith))
+returns-3 c =
+    puts-done (puts-end _ _ (length-pos _) _ _ (c .before .before .before .prepend-key .ensures)) (λ z. c .if2 .left (omega (arith, sub-t12 c)))
+    ∙ sym (end-order _ _ _ _ (omega arith))
 
 pub prepend-key-spec : {M : Type 1} → statement M
 prepend-key-spec = tie.close (tie.spec returns prepend-key-requires same-length returns-2 sub-t12 same-length-2 returns-3)

@@ -58,21 +58,33 @@ module _ {M : Type 1} (𝓤 : URA M) (H : Heap 𝓤) (A : Atoms 𝓤) (W : Given
   exits : ent 𝓤 (onEntry 𝓤 H A make.signature (κ, tt) (q, tt) values passed) (Post (T′.lowered d))
   exits =
       qed W ((‵ (flft κ q) ⊛ ‵ ftrue) ∷ ‵ (owns (ShrSlice (named 0) κ u8 ∷ usize ∷ usize ∷ u32 ∷ []) values passed) ∷ []) ∵
-      suffices ! _ (ends-at 𝓤 H A make.ended stayed (make.clauses 𝓤 H A mem run) W (((κ, tt), (q, tt), tt, values, passed), tt) (T′.lowered d) d (tt, (tt, (tt, (tt, tt)))) (tt, (tt, (tt, (tt, tt))))) $ says ! refl $
-      frame ! $ fsplit ! $ use1 W (‵ (slice κ (d .message)) ⊛ ‵ (slice κ (d .message))) (both κ 𝓤 H A W (d .message)) $ split ! $ move ! (0 ∷ 2 ∷ []) $ fjoin ! $ frame ! $
+      suffices ! _
+      (ends-at 𝓤 H A make.ended stayed (make.clauses 𝓤 H A mem run) W (((κ, tt), (q, tt), tt, values, passed), tt) (T′.lowered d) d
+      (tt, (tt, (tt, (tt, tt)))) (tt, (tt, (tt, (tt, tt))))) $ says ! refl $
+      frame ! $ fsplit ! $ use1 W (‵ (slice κ (d .message)) ⊛ ‵ (slice κ (d .message))) (both κ 𝓤 H A W (d .message)) $ split ! $ move ! (0 ∷ 2 ∷ [])
+      $ fjoin ! $ frame ! $
       by ! (shut κ 𝓤 H A W d f)
 
   module _ (C : Calls 𝓤 H) (Λ : Loops 𝓤 H) where
-    walk : Is (ShrSlice (named 0) κ u8) (d .message) (v ∷ []) → ent 𝓤 (onEntry 𝓤 H A make.signature (κ, tt) (q, tt) values passed) (WpFn 𝓤 H C Λ code.function (v ∷ vint w64 (d .place) ∷ vint w64 (d .end) ∷ vint w32 (d .last) ∷ []) Post)
+    walk : Is (ShrSlice (named 0) κ u8) (d .message) (v ∷ [])
+        → ent 𝓤 (onEntry 𝓤 H A make.signature (κ, tt) (q, tt) values passed)
+        (WpFn 𝓤 H C Λ code.function (v ∷ vint w64 (d .place) ∷ vint w64 (d .end) ∷ vint w32 (d .last) ∷ []) Post)
     walk p =
         let t = shr-slice-lawful 𝓤 H A W (named 0) κ u8 .typed (d .message) (v ∷ []) p .0 in
         qed W (raw (onEntry 𝓤 H A make.signature (κ, tt) (q, tt) values passed) ∷ []) ∵ enter ! C Λ code.function _ _ $
         alloc1 ! (λ l₀. alloc1 ! (λ l₁. alloc1 ! (λ l₂. alloc1 ! (λ l₃. alloc1 ! (λ l₄. alloc0 ! $ params1 ! $
-        pass1 ! (init ! 6 refl t) $ pass1 ! (init ! 4 refl (tt, record { fits = f .place })) $ pass1 ! (init ! 2 refl (tt, record { fits = f .end })) $ pass1 ! (init ! 0 refl (tt, record { fits = f .last })) $ pass0 ! $
-        assigns ! (agg ! (and-then ! (load ! (from ! (stop !)) (look ! 6 refl)) (and-then ! (load ! (from ! (stop !)) (look ! 4 refl)) (and-then ! (load ! (from ! (stop !)) (look ! 2 refl)) (and-then ! (load ! (from ! (stop !)) (look ! 0 refl)) (no-more !)))))) (from ! (stop !))
+        pass1 ! (init ! 6 refl t) $ pass1 ! (init ! 4 refl (tt, record { fits = f .place })) $ pass1 ! (init ! 2 refl (tt, record { fits = f .end }))
+        $ pass1 ! (init ! 0 refl (tt, record { fits = f .last })) $ pass0 ! $
+        assigns !
+        (agg !
+        (and-then ! (load ! (from ! (stop !)) (look ! 6 refl))
+        (and-then ! (load ! (from ! (stop !)) (look ! 4 refl))
+        (and-then ! (load ! (from ! (stop !)) (look ! 2 refl)) (and-then ! (load ! (from ! (stop !)) (look ! 0 refl)) (no-more !))))))
+        (from ! (stop !))
         (init ! 8 refl (tt, (t .1, (record { fits = f .place }, (record { fits = f .end }, (record { fits = f .last }, tt)))))) $
         returns ! (look ! 8 refl) $ forget ! 0 refl $ forget ! 2 refl $ forget ! 4 refl $ forget ! 6 refl $ forget ! 8 refl $
-        move ! (8 ∷ 9 ∷ []) $ free1 ! $ move ! (6 ∷ 7 ∷ []) $ free1 ! $ move ! (4 ∷ 5 ∷ []) $ free1 ! $ move ! (2 ∷ 3 ∷ []) $ free1 ! $ free1 ! $ free0 ! $ by ! exits)))))
+        move ! (8 ∷ 9 ∷ []) $ free1 ! $ move ! (6 ∷ 7 ∷ []) $ free1 ! $ move ! (4 ∷ 5 ∷ []) $ free1 ! $ move ! (2 ∷ 3 ∷ []) $ free1 ! $ free1 ! $
+        free0 ! $ by ! exits)))))
 
 module _ {M : Type 1} (𝓤 : URA M) (H : Heap 𝓤) (A : Atoms 𝓤) (W : Given 𝓤 H A) (mem : Memory → SProp 𝓤) (run : Routine → Fun 𝓤) where
   make-walks : (C : Calls 𝓤 H) (Λ : Loops 𝓤 H) → Walks 𝓤 H A make.ended stayed (WpFn 𝓤 H C Λ code.function) (make.clauses 𝓤 H A mem run)
@@ -81,13 +93,19 @@ module _ {M : Type 1} (𝓤 : URA M) (H : Heap 𝓤) (A : Atoms 𝓤) (W : Given
       (λ κs. (slice-vals, (uint-vals w64, (uint-vals w64, (uint-vals w32, tt)))))
       (λ κs. (shr-slice-tells (named 0) (κs .0) u8, (uint-tells w64, (uint-tells w64, (uint-tells w32, tt)))))
       (λ κs qs bounds a g are. via 𝓤 _ (fst∗ 𝓤 _ (emp 𝓤))
-      (walk 𝓤 H A W mem run (κs .0) (qs .0) (record { message = a .0; place = a .1 .0; end = a .1 .1 .0; last = a .1 .1 .1 .0 }) (record { place = are .1 .0 .1; end = are .1 .1 .0 .1; last = are .1 .1 .1 .0 .1 }) C Λ (are .0)))
+      (walk 𝓤 H A W mem run (κs .0) (qs .0) (record { message = a .0; place = a .1 .0; end = a .1 .1 .0; last = a .1 .1 .1 .0 })
+      (record { place = are .1 .0 .1; end = are .1 .1 .0 .1; last = are .1 .1 .1 .0 .1 }) C Λ (are .0)))
 
 make-meets : {M : Type 1} (𝓤 : URA M) (H : Heap 𝓤) (A : Atoms 𝓤) → Given 𝓤 H A → (mem : Memory → SProp 𝓤) (run : Routine → Fun 𝓤) (𝓣 : Tables 𝓤 H)
     → Meets 𝓤 H A make.signature (WpFn 𝓤 H (𝓣 .C) (𝓣 .Λ) code.function) (make.spec 𝓤 H A mem run)
 make-meets 𝓤 H A W mem run 𝓣 =
-    walk-meets 𝓤 H A make.ended stayed W
-    (goes-none-slice 𝓤 H A W 1 (0 ∷ []) tt (plain (λ _. u8)) yes, (goes-none 𝓤 H A W 1 (λ _. usize) yes (λ κs x f. refl), (goes-none 𝓤 H A W 1 (λ _. usize) yes (λ κs x f. refl), (goes-none 𝓤 H A W 1 (λ _. u32) yes (λ κs x f. refl), tt))))
+    walk-meets 𝓤 H A make.ended stayed W (
+      goes-none-slice 𝓤 H A W 1 (0 ∷ []) tt (plain (λ _. u8)) yes,
+      (
+        goes-none 𝓤 H A W 1 (λ _. usize) yes (λ κs x f. refl),
+        (goes-none 𝓤 H A W 1 (λ _. usize) yes (λ κs x f. refl), (goes-none 𝓤 H A W 1 (λ _. u32) yes (λ κs x f. refl), tt)),
+      ),
+    )
     (make.clauses 𝓤 H A mem run) (WpFn 𝓤 H (𝓣 .C) (𝓣 .Λ) code.function) (WpFn-mono 𝓤 H (W .laws) 𝓣 code.function) (make-walks 𝓤 H A W mem run (𝓣 .C) (𝓣 .Λ))
 
 pub make-spec : {M : Type 1} → stated.statement M

@@ -26,7 +26,9 @@ returns : tie.Need-returns
 returns c =
     let a = c .before .before .before .before .before .before .args in
     let g = c .before .before .key .given in
-    sym (ap (keyOf (a .last)) (sym (c .before .before .before .before .decode-varint-capped .ensures) ∙ g .1) ∙ simp (le-ltb (a .last + g .0 .0 / 4) (2 ^ 32) (omega arith)))
+    sym
+    (ap (keyOf (a .last)) (sym (c .before .before .before .before .decode-varint-capped .ensures) ∙ g .1)
+    ∙ simp (le-ltb (a .last + g .0 .0 / 4) (2 ^ 32) (omega arith)))
 
 cast-t15 : tie.Need-cast-t15
 cast-t15 c = search needs
@@ -44,7 +46,9 @@ returns-3 c =
     let a = c .before .before .before .before .before .before .before .args in
     let g = c .before .before .before .key .given in
     ap (λ (w : WireType). Got (record { tag = a .last + g .0 .0 / 4; wire = w }) (g .0 .1 .0)) (c .wire-type-of .ensures)
-    ∙ sym (ap (keyOf (a .last)) (sym (c .before .before .before .before .before .decode-varint-capped .ensures) ∙ g .1) ∙ simp (lt-ltb (a .last + g .0 .0 / 4) (2 ^ 32) (omega arith)))
+    ∙ sym
+    (ap (keyOf (a .last)) (sym (c .before .before .before .before .before .decode-varint-capped .ensures) ∙ g .1)
+    ∙ simp (lt-ltb (a .last + g .0 .0 / 4) (2 ^ 32) (omega arith)))
 
 pub decode-key-spec : {M : Type 1} → statement M
 decode-key-spec =

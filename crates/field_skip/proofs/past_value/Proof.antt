@@ -36,12 +36,17 @@ past-bytes-requires-3 c κs = search needs
 
 returns-4 : tie.Need-returns-4
 returns-4 c =
-    sym (past-none _ _ _ (c .before .before .before .before .before .before .before .args .kind) (omega arith) (sym (c .before .before .before .decode-varint-capped .ensures) ∙ c .before .r .given .1))
+    sym
+    (past-none _ _ _ (c .before .before .before .before .before .before .before .args .kind) (omega arith)
+    (sym (c .before .before .before .decode-varint-capped .ensures) ∙ c .before .r .given .1))
 
 returns-5 : tie.Need-returns-5
 returns-5 c =
+    let far = c .before .before .before .before .before .before .before .before .before in
     c .past-bytes3 .ensures
-    ∙ sym (past-payload _ _ _ (c .before .before .before .before .before .before .before .before .before .args .kind) (omega arith) (sym (c .before .before .before .before .before .decode-varint-capped .ensures) ∙ c .before .before .before .n .given .1))
+    ∙ sym
+    (past-payload _ _ _ (far .args .kind) (omega arith)
+    (sym (c .before .before .before .before .before .decode-varint-capped .ensures) ∙ c .before .before .before .n .given .1))
 
 pub past-value-spec : {M : Type 1} → statement M
 past-value-spec =

@@ -35,7 +35,9 @@ returns : tie.Need-returns Inv-loop μ-loop
 unfolding earlyOf
 returns c =
     let l = c .before .before .before .before in
-    sym (ap (earlyOf _) (going-refused (l .before .loop .inv .1) (l .loop-test .taken) _ (sym (c .before .before .before .look .ensures) ∙ c .before .r .given .1)))
+    sym
+    (ap (earlyOf _)
+    (going-refused (l .before .loop .inv .1) (l .loop-test .taken) _ (sym (c .before .before .before .look .ensures) ∙ c .before .r .given .1)))
 
 enum-told : tie.Need-enum-told Inv-loop μ-loop
 enum-told c = search needs
@@ -56,7 +58,9 @@ returns-2 c =
     let l = d .before .before .before in
     let i = l .before .loop .inv in
     c .tell .ensures
-    ∙ sym (ap (earlyOf _) (going-above (i .1) (l .loop-test .taken) (sym (d .before .before .look .ensures) ∙ d .enum-told .given .1)) ∙ seen-told _ _ _ _ _ (i .2) ∙ ap (λ (n : ℕ). toldOf (l .before .loop .found) (l .before .loop .many) (n + 1)) (sym (i .3)))
+    ∙ sym
+    (ap (earlyOf _) (going-above (i .1) (l .loop-test .taken) (sym (d .before .before .look .ensures) ∙ d .enum-told .given .1))
+    ∙ seen-told _ _ _ _ _ (i .2) ∙ ap (λ (n : ℕ). toldOf (l .before .loop .found) (l .before .loop .many) (n + 1)) (sym (i .3)))
 
 enum-known-f : tie.Need-enum-known-f Inv-loop μ-loop
 enum-known-f c = search needs
@@ -96,9 +100,10 @@ loop-again c =
 
 add-many : tie.Need-add-many Inv-loop μ-loop
 add-many c =
+    let far = c .before .before .before .before .before .before .before .before .before in
     let i = c .before .before .before .before .before .before .before .loop .inv in
     let m = moves (c .before .before) in
-    omega (arith, m .0, m .1, i .1 .counted, seen-few (i .2), c .before .before .before .before .before .before .before .before .before .good .0 .0)
+    omega (arith, m .0, m .1, i .1 .counted, seen-few (i .2), far .good .0 .0)
 
 loop-less-2 : tie.Need-loop-less-2 Inv-loop μ-loop
 loop-less-2 c = omega (arith, moves (c .before .before) .0, moves (c .before .before) .1)
@@ -120,7 +125,9 @@ unfolding earlyOf
 returns-3 c =
     let i = c .before .before .loop .inv in
     c .tell2 .ensures
-    ∙ sym (ap (earlyOf _) (going-end (i .1) (c .before .loop-test .left)) ∙ seen-told _ _ _ _ _ (i .2) ∙ ap (toldOf (c .before .before .loop .found) (c .before .before .loop .many)) (sym (i .3)))
+    ∙ sym
+    (ap (earlyOf _) (going-end (i .1) (c .before .loop-test .left)) ∙ seen-told _ _ _ _ _ (i .2)
+    ∙ ap (toldOf (c .before .before .loop .found) (c .before .before .loop .many)) (sym (i .3)))
 
 pub find-early-spec : {M : Type 1} → statement M
 find-early-spec =

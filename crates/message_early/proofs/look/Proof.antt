@@ -34,14 +34,18 @@ returns-3 c =
     let v = c .before in
     let e = v .before .before .before in
     let d = e .before .before in
-    sym (sight-value _ _ _ _ _ _ (sym (d .before .before .decode-key .ensures) ∙ d .k .given .1) (e .if1 .left) (sym (v .before .before .decode-value .ensures) ∙ v .r2 .given .1))
+    sym
+    (sight-value _ _ _ _ _ _ (sym (d .before .before .decode-key .ensures) ∙ d .k .given .1) (e .if1 .left)
+    (sym (v .before .before .decode-value .ensures) ∙ v .r2 .given .1))
 
 returns-4 : tie.Need-returns-4
 returns-4 c =
     let v = c .before in
     let e = v .before .before .before in
     let d = e .before .before in
-    sym (sight-value _ _ _ _ _ _ (sym (d .before .before .decode-key .ensures) ∙ d .k .given .1) (e .if1 .left) (sym (v .before .before .decode-value .ensures) ∙ v .v .given .1))
+    sym
+    (sight-value _ _ _ _ _ _ (sym (d .before .before .decode-key .ensures) ∙ d .k .given .1) (e .if1 .left)
+    (sym (v .before .before .decode-value .ensures) ∙ v .v .given .1))
 
 pub look-spec : {M : Type 1} → statement M
 look-spec =

@@ -39,7 +39,14 @@ store-requires : tie.Need-store-requires Inv-loop μ-loop
 store-requires c κs = omega (arith, turn (c .before .before .before) .room)
 
 add-i : tie.Need-add-i Inv-loop μ-loop
-add-i c = omega (arith, turn (c .before .before .before .before .before .before) .room, c .before .before .before .before .before .before .before .loop .inv .1, c .before .before .before .before .before .before .before .before .before .before .good)
+add-i c =
+    let far = c .before .before .before .before .before .before .before .before .before .before in
+    omega (
+      arith,
+      turn (c .before .before .before .before .before .before) .room,
+      c .before .before .before .before .before .before .before .loop .inv .1,
+      far .good,
+    )
 
 loop-less : tie.Need-loop-less Inv-loop μ-loop
 loop-less c =

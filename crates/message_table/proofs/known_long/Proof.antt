@@ -55,7 +55,9 @@ add-p c = omega (arith, lives (c .before .before), c .before .before .before .go
 returns : tie.Need-returns Inv-loop μ-loop
 returns c =
     let l = c .before .before .before .loop in
-    l .inv .1 ∙ last (c .before .before .before .before .args .s .now) (l .p) (l .value) (l .scale) (l .left) (lives (c .before .before .before)) (inl (c .if1 .taken)) (sums (c .before))
+    l .inv .1
+    ∙ last (c .before .before .before .before .args .s .now) (l .p) (l .value) (l .scale) (l .left) (lives (c .before .before .before))
+    (inl (c .if1 .taken)) (sums (c .before))
 
 mul-scale : tie.Need-mul-scale Inv-loop μ-loop
 mul-scale c = omega (arith, scale-small _ _ _ (c .before .before .before .loop .inv .0) (c .before .before .loop-test .taken))
@@ -69,8 +71,11 @@ loop-less c = omega arith
 loop-again : tie.Need-loop-again Inv-loop μ-loop
 loop-again c =
     let l = c .before .before .before .loop in
-    let t = c .before .before .loop-test .taken in
-    (passed-more _ _ _ _ (l .inv .0) (byte (c .before)) t, l .inv .1 ∙ step (c .before .before .before .before .args .s .now) (l .p) (l .value) (l .scale) (l .left) (lives (c .before .before .before)) (c .if1 .left) t)
+    let t = c .before .before .loop-test .taken in (
+      passed-more _ _ _ _ (l .inv .0) (byte (c .before)) t,
+      l .inv .1
+          ∙ step (c .before .before .before .before .args .s .now) (l .p) (l .value) (l .scale) (l .left) (lives (c .before .before .before)) (c .if1 .left) t,
+    )
 
 -- after the loop: the ninth byte fits
 fits : (c : tie.After-shared-slice-known2 Inv-loop μ-loop) → let l = c .before .before .loop in
@@ -97,7 +102,8 @@ add-t17 c = omega (arith, lives (c .before .before), c .before .before .before .
 returns-2 : tie.Need-returns-2 Inv-loop μ-loop
 returns-2 c =
     let l = c .before .before .loop in
-    l .inv .1 ∙ ninth (c .before .before .before .args .s .now) (l .p) (l .value) (l .scale) (l .left) (l .inv .0) (omega arith) (lives (c .before .before)) (fits c)
+    l .inv .1
+    ∙ ninth (c .before .before .before .args .s .now) (l .p) (l .value) (l .scale) (l .left) (l .inv .0) (omega arith) (lives (c .before .before)) (fits c)
 
 pub known-long-spec : {M : Type 1} → statement M
 known-long-spec =

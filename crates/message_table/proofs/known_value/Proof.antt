@@ -50,7 +50,8 @@ add-t18 : tie.Need-add-t18
 add-t18 c = search needs
 
 add-t16 : tie.Need-add-t16
-add-t16 c = omega (arith, eight-inside _ _ _ (omega arith) (c .before .before .before .before .before .pre), c .before .before .before .before .before .good .0 .0)
+add-t16 c =
+    omega (arith, eight-inside _ _ _ (omega arith) (c .before .before .before .before .before .pre), c .before .before .before .before .before .good .0 .0)
 
 returns-4 : tie.Need-returns-4
 returns-4 c =

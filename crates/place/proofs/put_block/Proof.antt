@@ -22,7 +22,8 @@ same-length c = search needs
 returns : tie.Need-returns
 returns c =
     let a = c .before .before .before .before .before .before .before .before .before .before in
-    block-done _ _ _ _ (a .pre .0) (a .pre .1) (c .before .before .before .before .before .before .put-each .ensures) _ _ (c .before .before .put-each2 .ensures)
+    block-done _ _ _ _ (a .pre .0) (a .pre .1) (c .before .before .before .before .before .before .put-each .ensures) _ _
+    (c .before .before .put-each2 .ensures)
 
 pub put-block-spec : {M : Type 1} → statement M
 put-block-spec =

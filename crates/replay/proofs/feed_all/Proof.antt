@@ -6,7 +6,8 @@ use Rattle.replay.proofs.feed_all.Statement.{statement}
 use Rattle.replay.proofs.feed_all.Tie as tie
 
 abbrev Inv-loop : tie.InvT-loop
-Inv-loop block line₀ source₀ table₀ now₀ i₀ line source table now i = (length line ≡ length line₀) × (length source ≡ length source₀) × (length table ≡ length table₀)
+Inv-loop block line₀ source₀ table₀ now₀ i₀ line source table now i =
+    (length line ≡ length line₀) × (length source ≡ length source₀) × (length table ≡ length table₀)
 
 abbrev μ-loop : tie.MeasureT-loop
 μ-loop block line₀ source₀ table₀ now₀ i₀ line source table now i = length block - i

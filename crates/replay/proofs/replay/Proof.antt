@@ -5,7 +5,8 @@ use Rattle.replay.proofs.replay.Statement.{statement}
 use Rattle.replay.proofs.replay.Tie as tie
 
 abbrev Inv-loop : tie.InvT-loop
-Inv-loop fd line₀ source₀ table₀ block₀ st₀ turns₀ line source table block st turns = (length line ≡ 4096) × (length source ≡ 65536) × (length table ≡ 131072) × (length block ≡ 4096)
+Inv-loop fd line₀ source₀ table₀ block₀ st₀ turns₀ line source table block st turns =
+    (length line ≡ 4096) × (length source ≡ 65536) × (length table ≡ 131072) × (length block ≡ 4096)
 
 abbrev μ-loop : tie.MeasureT-loop
 μ-loop fd line₀ source₀ table₀ block₀ st₀ turns₀ line source table block st turns = turns

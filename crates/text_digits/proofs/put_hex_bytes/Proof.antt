@@ -33,19 +33,36 @@ glyph-requires : tie.Need-glyph-requires Inv-loop μ-loop
 glyph-requires c κs = omega (arith, c .shared-slice-known2 .given (c .before .before .loop .i) .fits)
 
 slice-write-buf : tie.Need-slice-write-buf Inv-loop μ-loop
-slice-write-buf c = hex-inside (c .before .before .before .loop .inv) (c .before .before .loop-test .taken) (c .before .shared-slice-known2 .given (c .before .before .before .loop .i) .fits) (c .glyph .ensures) refl
+slice-write-buf c =
+    hex-inside (c .before .before .before .loop .inv) (c .before .before .loop-test .taken)
+    (c .before .shared-slice-known2 .given (c .before .before .before .loop .i) .fits) (c .glyph .ensures) refl
 
 glyph-requires-2 : tie.Need-glyph-requires-2 Inv-loop μ-loop
 glyph-requires-2 c κs = search needs
 
 add-buf : tie.Need-add-buf Inv-loop μ-loop
-add-buf c = omega (arith, hex-inside (c .before .before .before .before .loop .inv) (c .before .before .before .loop-test .taken) (c .before .before .shared-slice-known2 .given (c .before .before .before .before .loop .i) .fits) (c .before .glyph .ensures) (c .glyph2 .ensures))
+add-buf c =
+    omega (
+      arith,
+      hex-inside (c .before .before .before .before .loop .inv) (c .before .before .before .loop-test .taken)
+          (c .before .before .shared-slice-known2 .given (c .before .before .before .before .loop .i) .fits) (c .before .glyph .ensures)
+          (c .glyph2 .ensures),
+    )
 
 slice-write-buf-2 : tie.Need-slice-write-buf-2 Inv-loop μ-loop
-slice-write-buf-2 c = hex-next (c .before .before .before .before .loop .inv) (c .before .before .before .loop-test .taken) (c .before .before .shared-slice-known2 .given (c .before .before .before .before .loop .i) .fits) (c .before .glyph .ensures) (c .glyph2 .ensures)
+slice-write-buf-2 c =
+    hex-next (c .before .before .before .before .loop .inv) (c .before .before .before .loop-test .taken)
+    (c .before .before .shared-slice-known2 .given (c .before .before .before .before .loop .i) .fits) (c .before .glyph .ensures)
+    (c .glyph2 .ensures)
 
 add-p : tie.Need-add-p Inv-loop μ-loop
-add-p c = omega (arith, hex-inside (c .before .before .before .before .loop .inv) (c .before .before .before .loop-test .taken) (c .before .before .shared-slice-known2 .given (c .before .before .before .before .loop .i) .fits) (c .before .glyph .ensures) (c .glyph2 .ensures))
+add-p c =
+    omega (
+      arith,
+      hex-inside (c .before .before .before .before .loop .inv) (c .before .before .before .loop-test .taken)
+          (c .before .before .shared-slice-known2 .given (c .before .before .before .before .loop .i) .fits) (c .before .glyph .ensures)
+          (c .glyph2 .ensures),
+    )
 
 add-i : tie.Need-add-i Inv-loop μ-loop
 add-i c = search needs
@@ -54,7 +71,10 @@ loop-less : tie.Need-loop-less Inv-loop μ-loop
 loop-less c = search needs
 
 loop-again : tie.Need-loop-again Inv-loop μ-loop
-loop-again c = hex-more (c .before .before .before .before .loop .inv) (c .before .before .before .loop-test .taken) (c .before .before .shared-slice-known2 .given (c .before .before .before .before .loop .i) .fits) (c .before .glyph .ensures) (c .glyph2 .ensures)
+loop-again c =
+    hex-more (c .before .before .before .before .loop .inv) (c .before .before .before .loop-test .taken)
+    (c .before .before .shared-slice-known2 .given (c .before .before .before .before .loop .i) .fits) (c .before .glyph .ensures)
+    (c .glyph2 .ensures)
 
 same-length : tie.Need-same-length Inv-loop μ-loop
 same-length c = c .before .loop .inv .put .same

@@ -34,10 +34,19 @@ known-requires-2 : tie.Need-known-requires-2 Inv-loop μ-loop
 known-requires-2 c κs = search needs
 
 add-out : tie.Need-add-out Inv-loop μ-loop
-add-out c = omega (arith, c .before .before .known .ensures, c .known2 .ensures, high-digit (c .before .before .before .before .before .loop .inv) (c .before .before .before .before .loop-test .taken), low-digit (c .before .before .before .before .before .loop .inv) (c .before .before .before .before .loop-test .taken))
+add-out c =
+    omega (
+      arith,
+      c .before .before .known .ensures,
+      c .known2 .ensures,
+      high-digit (c .before .before .before .before .before .loop .inv) (c .before .before .before .before .loop-test .taken),
+      low-digit (c .before .before .before .before .before .loop .inv) (c .before .before .before .before .loop-test .taken),
+    )
 
 slice-write-out : tie.Need-slice-write-out Inv-loop μ-loop
-slice-write-out c = decode-inside (c .before .before .before .before .before .loop .inv) (c .before .before .before .before .loop-test .taken) (c .before .before .known .ensures) (c .known2 .ensures)
+slice-write-out c =
+    decode-inside (c .before .before .before .before .before .loop .inv) (c .before .before .before .before .loop-test .taken)
+    (c .before .before .known .ensures) (c .known2 .ensures)
 
 add-i : tie.Need-add-i Inv-loop μ-loop
 add-i c = omega (arith, c .before .before .before .before .before .loop .inv .reach, c .before .before .before .before .before .loop .inv .two)
@@ -49,7 +58,9 @@ loop-less : tie.Need-loop-less Inv-loop μ-loop
 loop-less c = search needs
 
 loop-again : tie.Need-loop-again Inv-loop μ-loop
-loop-again c = decode-more (c .before .before .before .before .before .loop .inv) (c .before .before .before .before .loop-test .taken) (c .before .before .known .ensures) (c .known2 .ensures)
+loop-again c =
+    decode-more (c .before .before .before .before .before .loop .inv) (c .before .before .before .before .loop-test .taken)
+    (c .before .before .known .ensures) (c .known2 .ensures)
 
 same-length : tie.Need-same-length Inv-loop μ-loop
 same-length c = c .before .loop .inv .put .same

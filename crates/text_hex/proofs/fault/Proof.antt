@@ -24,7 +24,8 @@ zero-between-requires-3 c κs = search needs
 
 returns : tie.Need-returns
 returns c =
-    rw (c .zero-between3 .ensures, c .before .zero-between2 .ensures, c .before .before .zero-between .ensures) (fault-tests (c .before .before .before .args .c))
+    rw (c .zero-between3 .ensures, c .before .zero-between2 .ensures, c .before .before .zero-between .ensures)
+    (fault-tests (c .before .before .before .args .c))
 
 pub fault-spec : {M : Type 1} → statement M
 fault-spec =

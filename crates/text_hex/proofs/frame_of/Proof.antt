@@ -37,7 +37,10 @@ same-length c = search needs
 
 returns-6 : tie.Need-returns-6
 returns-6 c =
-    rw (c .before .before .decode .ensures) (sym (good-frame (fits (c .before .before .before .before .before .before .before)) (c .before .before .before .before .before .before .if4 .left) (omega (arith, c .before .before .before .before .before .worst-fault .ensures))))
+    rw (c .before .before .decode .ensures)
+    (sym
+    (good-frame (fits (c .before .before .before .before .before .before .before)) (c .before .before .before .before .before .before .if4 .left)
+    (omega (arith, c .before .before .before .before .before .worst-fault .ensures))))
 
 pub frame-of-spec : {M : Type 1} → statement M
 frame-of-spec =

@@ -31,7 +31,8 @@ loop-less : tie.Need-loop-less Inv-loop μ-loop
 loop-less c = search needs
 
 loop-again : tie.Need-loop-again Inv-loop μ-loop
-loop-again c = test-more (c .before .before .before .before .loop .inv) (c .before .before .before .loop-test .taken) (c .before .fault .ensures) (c .larger .ensures)
+loop-again c =
+    test-more (c .before .before .before .before .loop .inv) (c .before .before .before .loop-test .taken) (c .before .fault .ensures) (c .larger .ensures)
 
 returns : tie.Need-returns Inv-loop μ-loop
 returns c = test-done (c .before .loop .inv) (c .loop-test .left)

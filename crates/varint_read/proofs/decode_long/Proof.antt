@@ -27,8 +27,10 @@ add-p c = omega arith
 
 loop-holds : tie.Need-loop-holds Inv-loop μ-loop
 loop-holds c =
-    let a = c .before in
-    (record { small = omega (arith, c .shared-slice-known .given (a .args .at)); weight = refl }, two-bytes (a .args .s .now) (a .args .at) (a .pre .0) (a .pre .1))
+    let a = c .before in (
+      record { small = omega (arith, c .shared-slice-known .given (a .args .at)); weight = refl },
+      two-bytes (a .args .s .now) (a .args .at) (a .pre .0) (a .pre .1),
+    )
 
 returns : tie.Need-returns Inv-loop μ-loop
 returns c =

@@ -51,7 +51,8 @@ enum-known-r c = search needs
 
 returns-3 : tie.Need-returns-3
 returns-3 c =
-    let a = c .before .before .before .before .before .before .before .before .before .args in
+    let far = c .before .before .before .before .before .before .before .before .before in
+    let a = far .args in
     let e = sym (c .before .before .before .before .decode-long .ensures) ∙ c .before .before .r .given .1 in
     sym (ap (renamed (a .end) (a .at)) e ∙ simp (lt-ltb (a .end) (a .at + 9) (omega arith)))
 
@@ -60,18 +61,21 @@ sub-if4 c = search needs
 
 returns-4 : tie.Need-returns-4
 returns-4 c =
-    let a = c .before .before .before .before .before .before .before .before .before .before .args in
+    let far = c .before .before .before .before .before .before .before .before .before .before in
+    let a = far .args in
     let e = sym (c .before .before .before .before .before .decode-long .ensures) ∙ c .before .before .before .r .given .1 in
     sym (ap (renamed (a .end) (a .at)) e ∙ simp (lt-ltb (a .end) (a .at + 9) (omega arith)))
 
 returns-5 : tie.Need-returns-5
 returns-5 c =
-    let a = c .before .before .before .before .before .before .before .before .args in
+    let far = c .before .before .before .before .before .before .before .before in
+    let a = far .args in
     sym (ap (renamed (a .end) (a .at)) (sym (c .before .before .before .decode-long .ensures) ∙ c .before .v .given .1))
 
 returns-6 : tie.Need-returns-6
 returns-6 c =
-    let a = c .before .before .before .before .before .before .before .before .before .before .args in
+    let far = c .before .before .before .before .before .before .before .before .before .before in
+    let a = far .args in
     let e = sym (c .before .before .before .before .before .decode-long .ensures) ∙ c .before .before .before .r .given .1 in
     sym (ap (renamed (a .end) (a .at)) e ∙ simp (le-ltb (a .end) (a .at + 9) (omega arith)))
 

@@ -28,10 +28,14 @@ returns-7 : tie.Need-returns-7
 returns-7 c = sym (length-at 6 (c .before .before .before .before .before .before .before .args .v) (lit≤ tt) (omega arith) (omega arith))
 
 returns-8 : tie.Need-returns-8
-returns-8 c = sym (length-at 7 (c .before .before .before .before .before .before .before .before .args .v) (lit≤ tt) (omega arith) (omega arith))
+returns-8 c =
+    let far = c .before .before .before .before .before .before .before .before in
+    sym (length-at 7 (far .args .v) (lit≤ tt) (omega arith) (omega arith))
 
 returns-9 : tie.Need-returns-9
-returns-9 c = sym (length-top (c .before .before .before .before .before .before .before .before .args .v) (omega arith))
+returns-9 c =
+    let far = c .before .before .before .before .before .before .before .before in
+    sym (length-top (far .args .v) (omega arith))
 
 pub encoded-len-varint-spec : {M : Type 1} → statement M
 encoded-len-varint-spec =

@@ -38,7 +38,8 @@ same-length-2 c = search needs
 returns-5 : tie.Need-returns-5
 returns-5 c =
     let t = c .before .before .before .before .before in
-    prepended _ _ _ 2 (sym (two-long _ (t .before .if2 .left) (t .if4 .taken))) (t .before .before .if1 .left) (omega arith) (c .before .before .put-two .ensures)
+    prepended _ _ _ 2 (sym (two-long _ (t .before .if2 .left) (t .if4 .taken))) (t .before .before .if1 .left) (omega arith)
+    (c .before .before .put-two .ensures)
 
 encoded-len-varint-requires : tie.Need-encoded-len-varint-requires
 encoded-len-varint-requires c κs = search needs
@@ -55,7 +56,8 @@ same-length-3 c = search needs
 returns-7 : tie.Need-returns-7
 returns-7 c =
     let t = c .before .before .before .before in
-    long-prepended _ _ _ _ (t .before .encoded-len-varint .ensures) (t .before .before .before .before .if1 .left) (t .if6 .left) (c .before .before .put-long .ensures)
+    long-prepended _ _ _ _ (t .before .encoded-len-varint .ensures) (t .before .before .before .before .if1 .left) (t .if6 .left)
+    (c .before .before .put-long .ensures)
 
 pub prepend-varint-spec : {M : Type 1} → statement M
 prepend-varint-spec =

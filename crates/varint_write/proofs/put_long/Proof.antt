@@ -26,7 +26,9 @@ encoded-len-varint-requires : tie.Need-encoded-len-varint-requires Inv-loop μ-l
 encoded-len-varint-requires c κs = search needs
 
 returns-2 : tie.Need-returns-2 Inv-loop μ-loop
-returns-2 c = let a = c .before .before .before .before .args in sym (put-none (a .buf .now) (a .at) (encode (a .v)) (omega (arith, c .before .encoded-len-varint .ensures)))
+returns-2 c =
+    let a = c .before .before .before .before .args in
+    sym (put-none (a .buf .now) (a .at) (encode (a .v)) (omega (arith, c .before .encoded-len-varint .ensures)))
 
 loop-holds : tie.Need-loop-holds Inv-loop μ-loop
 loop-holds c = encode-start _ _ _ (omega arith) (omega (arith, c .before .encoded-len-varint .ensures))

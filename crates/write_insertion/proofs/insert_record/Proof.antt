@@ -13,17 +13,24 @@ use Rattle.write_insertion.proofs.insert_record.Statement.{statement}
 use Rattle.write_insertion.proofs.insert_record.Tie as tie
 
 -- no test of the records refused
-fine : (c : tie.After-enum-told) → let a = c .before .before .before .before .before .before .args in checked (a .most) (a .source .now) (a .table .now) (a .count) ≡ AllFine
-fine c = let a = c .before .before .before .before .before .before .args in spent-left (a .most) (a .source .now) (a .table .now) (a .count) (c .before .before .weigh .ensures) _ (c .enum-told .given .1) .0
+fine : (c : tie.After-enum-told)
+    → let a = c .before .before .before .before .before .before .args in checked (a .most) (a .source .now) (a .table .now) (a .count) ≡ AllFine
+fine c =
+    let a = c .before .before .before .before .before .before .args in
+    spent-left (a .most) (a .source .now) (a .table .now) (a .count) (c .before .before .weigh .ensures) _ (c .enum-told .given .1) .0
 
 -- there is room for one more
 roomy : (c : tie.Else2) → let a = c .before .before .before .before .before .before .before .before .before .args in a .count < room (a .table .now)
 roomy c =
-    let a = c .before .before .before .before .before .before .before .before .before .args in
+    let far = c .before .before .before .before .before .before .before .before .before in
+    let a = far .args in
     omega (arith, checked-fine (a .most) (a .source .now) (a .table .now) (a .count) (fine (c .before .before .before)) .1 .count, c .if2 .left)
 
-inside : (c : tie.After-find-spot) → c .find-spot .result ≤ c .before .before .before .before .before .before .before .before .before .before .before .args .count
-inside c = let a = c .before .before .before .before .before .before .before .before .before .before .before .args in omega (arith, c .find-spot .ensures, spot-inside (a .count) (a .table .now) (a .added .tag))
+inside : (c : tie.After-find-spot)
+    → c .find-spot .result ≤ c .before .before .before .before .before .before .before .before .before .before .before .args .count
+inside c =
+    let far = c .before .before .before .before .before .before .before .before .before .before .before in
+    let a = far .args in omega (arith, c .find-spot .ensures, spot-inside (a .count) (a .table .now) (a .added .tag))
 
 weigh-requires : tie.Need-weigh-requires
 weigh-requires c κs = search needs
@@ -47,7 +54,9 @@ same-length : tie.Need-same-length
 same-length c = search needs
 
 returns : tie.Need-returns
-returns c = inserts-refuses _ _ _ _ _ (aim-full _ _ _ _ _ (fine (c .before .before .before)) (sym (c .before .before .is-good .ensures) ∙ c .before .if1 .taken) (c .if2 .taken))
+returns c =
+    inserts-refuses _ _ _ _ _
+    (aim-full _ _ _ _ _ (fine (c .before .before .before)) (sym (c .before .before .is-good .ensures) ∙ c .before .if1 .taken) (c .if2 .taken))
 
 find-spot-requires : tie.Need-find-spot-requires
 find-spot-requires c κs = omega (arith, roomy (c .before))
@@ -69,17 +78,21 @@ same-length-2 c = search needs
 
 returns-2 : tie.Need-returns-2
 returns-2 c =
+    let far = c .before .before .before .before .before .before .before .before in
     let f = c .before .before .before .before .find-spot .ensures in
-    let t = c .before .before .before .before .before .before .before .before in
+    let t = far in
     inserts-puts _ _ _ _
-    (aim-puts _ _ _ _ _ (fine (c .before .before .before .before .before .before .before .before .before)) (sym (t .is-good .ensures) ∙ c .before .before .before .before .before .before .before .if1 .taken) (c .before .before .before .before .before .before .if2 .left) ∙ ap Puts (sym f))
-    (c .before .before .put-between .ensures ∙ put-inserted _ _ _ _ (inside (c .before .before .before .before)) (roomy (c .before .before .before .before .before .before)))
+    (aim-puts _ _ _ _ _ (fine (far .before)) (sym (t .is-good .ensures) ∙ c .before .before .before .before .before .before .before .if1 .taken)
+    (c .before .before .before .before .before .before .if2 .left) ∙ ap Puts (sym f))
+    (c .before .before .put-between .ensures
+    ∙ put-inserted _ _ _ _ (inside (c .before .before .before .before)) (roomy (c .before .before .before .before .before .before)))
 
 same-length-3 : tie.Need-same-length-3
 same-length-3 c = search needs
 
 returns-3 : tie.Need-returns-3
-returns-3 c = inserts-refuses _ _ _ _ _ (aim-first _ _ _ _ _ _ _ (spent-first _ _ _ _ (c .before .before .before .weigh .ensures) _ _ (c .before .why .given .1)))
+returns-3 c =
+    inserts-refuses _ _ _ _ _ (aim-first _ _ _ _ _ _ _ (spent-first _ _ _ _ (c .before .before .before .weigh .ensures) _ _ (c .before .why .given .1)))
 
 same-length-4 : tie.Need-same-length-4
 same-length-4 c = search needs

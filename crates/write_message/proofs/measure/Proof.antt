@@ -17,7 +17,8 @@ enum-known-left : tie.Need-enum-known-left
 enum-known-left c = search needs
 
 returns : tie.Need-returns
-returns c = sym (measured-refuses (spent-over _ _ _ _ (c .before .before .before .before .weigh .ensures) _ (c .before .before .left .given .1) (c .if1 .taken)))
+returns c =
+    sym (measured-refuses (spent-over _ _ _ _ (c .before .before .before .before .weigh .ensures) _ (c .before .before .left .given .1) (c .if1 .taken)))
 
 add-t13 : tie.Need-add-t13
 add-t13 c = search needs
@@ -25,7 +26,11 @@ add-t13 c = search needs
 sub-t14 : tie.Need-sub-t14
 sub-t14 c =
     let a = c .before .before .before .before .before .before .before .args in
-    omega (arith, spent-left (a .most) (a .source .now) (a .table .now) (a .count) (c .before .before .before .before .weigh .ensures) _ (c .before .before .left .given .1) .1)
+    omega (
+      arith,
+      spent-left (a .most) (a .source .now) (a .table .now) (a .count) (c .before .before .before .before .weigh .ensures) _
+          (c .before .before .left .given .1) .1,
+    )
 
 returns-2 : tie.Need-returns-2
 returns-2 c = sym (measured-refuses (plan-first _ _ _ _ _ _ (spent-first _ _ _ _ (c .before .before .before .weigh .ensures) _ _ (c .before .why .given .1))))

@@ -27,7 +27,8 @@ tag-before-requires c κs = omega (arith, c .before .before .before .before .bef
 prepend-record-requires : tie.Need-prepend-record-requires Inv-loop μ-loop
 prepend-record-requires c κs =
     let a = c .before .before .before .before .before .before .before .before in
-    backward-one (a .pre .0) (a .pre .1) (c .before .before .before .before .loop .inv) (c .before .before .before .loop-test .taken) (c .before .before .load .ensures) (c .before .tag-before .ensures)
+    backward-one (a .pre .0) (a .pre .1) (c .before .before .before .before .loop .inv) (c .before .before .before .loop-test .taken)
+    (c .before .before .load .ensures) (c .before .tag-before .ensures)
 
 loop-less : tie.Need-loop-less Inv-loop μ-loop
 loop-less c = search needs
@@ -35,7 +36,9 @@ loop-less c = search needs
 loop-again : tie.Need-loop-again Inv-loop μ-loop
 loop-again c =
     let a = c .before .before .before .before .before .before .before .before .before .before .before in
-    backward-more (a .pre .0) (a .pre .1) (c .before .before .before .before .before .before .before .loop .inv) (c .before .before .before .before .before .before .loop-test .taken) (c .before .before .before .before .before .load .ensures) (c .before .before .before .before .tag-before .ensures) (c .before .before .prepend-record .ensures)
+    backward-more (a .pre .0) (a .pre .1) (c .before .before .before .before .before .before .before .loop .inv)
+    (c .before .before .before .before .before .before .loop-test .taken) (c .before .before .before .before .before .load .ensures)
+    (c .before .before .before .before .tag-before .ensures) (c .before .before .prepend-record .ensures)
 
 same-length : tie.Need-same-length Inv-loop μ-loop
 same-length c = spans-length (c .before .loop .inv .put)

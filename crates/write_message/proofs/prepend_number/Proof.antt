@@ -33,7 +33,9 @@ same-length-2 : tie.Need-same-length-2
 same-length-2 c = search needs
 
 returns-2 : tie.Need-returns-2
-returns-2 c = spans-prepend _ _ _ (c .before .before .before .before .before .before .pre .0) (c .before .before .before .before .before .before .pre .1) (c .before .before .prepend-varint .ensures)
+returns-2 c =
+    spans-prepend _ _ _ (c .before .before .before .before .before .before .pre .0) (c .before .before .before .before .before .before .pre .1)
+    (c .before .before .prepend-varint .ensures)
 
 pub prepend-number-spec : {M : Type 1} → statement M
 prepend-number-spec =

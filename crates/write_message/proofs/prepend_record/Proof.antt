@@ -23,14 +23,19 @@ add-prepend-number c = search needs
 prepend-number-requires : tie.Need-prepend-number-requires
 prepend-number-requires c κs =
     let v = c .before .before .before .before .before .prepend-value .ensures in
-    let a = c .before .before .before .before .before .before .before .before .before in
-    (omega (arith, whole-size (a .args .source .now) (a .args .prev) (a .args .r) (a .pre .0), a .pre .2, v .reach), omega (arith, a .pre .3, v .reach, spans-length v))
+    let a = c .before .before .before .before .before .before .before .before .before in (
+      omega (arith, whole-size (a .args .source .now) (a .args .prev) (a .args .r) (a .pre .0), a .pre .2, v .reach),
+      omega (arith, a .pre .3, v .reach, spans-length v),
+    )
 
 same-length : tie.Need-same-length
 same-length c = search needs
 
 returns : tie.Need-returns
-returns c = spans-as (whole _ _ _ (c .before .before .before .before .before .before .before .before .before .before .before .before .pre .0)) (spans-before (c .before .before .before .before .before .before .before .before .prepend-value .ensures) (c .before .before .prepend-number .ensures))
+returns c =
+    let far = c .before .before .before .before .before .before .before .before in
+    spans-as (whole _ _ _ (far .before .before .before .before .pre .0))
+    (spans-before (far .prepend-value .ensures) (c .before .before .prepend-number .ensures))
 
 pub prepend-record-spec : {M : Type 1} → statement M
 prepend-record-spec =

@@ -12,7 +12,9 @@ use Rattle.write_message.proofs.prepend_value.Statement.{statement}
 use Rattle.write_message.proofs.prepend_value.Tie as tie
 
 -- there is room for the value, by its type
-payload-fits : (c : tie.Else2) → length (encode (c .before .before .before .before .args .r .length)) + c .before .before .before .before .args .r .length ≤ c .before .before .before .before .args .end
+payload-fits : (c : tie.Else2)
+    → length (encode (c .before .before .before .before .args .r .length)) + c .before .before .before .before .args .r .length ≤ c .before .before
+    .before .before .args .end
 payload-fits c =
     let a = c .before .before .before .before in
     omega (arith, payload-size (a .args .buf .now) (a .args .source .now) (a .args .r) (a .pre .0) (omega arith), a .pre .1)
@@ -54,7 +56,8 @@ same-length-2 c = search needs
 returns-2 : tie.Need-returns-2
 returns-2 c =
     let a = c .before .before .before .before .before .before .before .before .before .before .before .before in
-    prepend-payload _ _ _ (a .pre .0) (omega arith) (a .pre .1) (a .pre .2) refl (c .before .before .before .before .before .before .put-part .ensures) (c .before .before .prepend-number2 .ensures)
+    prepend-payload _ _ _ (a .pre .0) (omega arith) (a .pre .1) (a .pre .2) refl
+    (c .before .before .before .before .before .before .put-part .ensures) (c .before .before .prepend-number2 .ensures)
 
 sub-put-fixed : tie.Need-sub-put-fixed
 sub-put-fixed c = omega (arith, four-fits (c .before))
@@ -69,7 +72,10 @@ same-length-3 : tie.Need-same-length-3
 same-length-3 c = search needs
 
 returns-3 : tie.Need-returns-3
-returns-3 c = put-up-to _ _ (bytes-four _ _ (c .before .before .before .before .if3 .taken)) (c .before .before .put-fixed .ensures) _ (omega (arith, four-fits (c .before .before .before .before))) (c .before .before .before .before .before .before .before .before .pre .2)
+returns-3 c =
+    let far = c .before .before .before .before .before .before .before .before in
+    put-up-to _ _ (bytes-four _ _ (c .before .before .before .before .if3 .taken)) (c .before .before .put-fixed .ensures) _
+    (omega (arith, four-fits (c .before .before .before .before))) (far .pre .2)
 
 sub-put-fixed-2 : tie.Need-sub-put-fixed-2
 sub-put-fixed-2 c = omega (arith, eight-fits (c .before))
@@ -84,7 +90,10 @@ same-length-4 : tie.Need-same-length-4
 same-length-4 c = search needs
 
 returns-4 : tie.Need-returns-4
-returns-4 c = put-up-to _ _ (bytes-eight _ _ (last-kind (c .before .before .before .before))) (c .before .before .put-fixed2 .ensures) _ (omega (arith, eight-fits (c .before .before .before .before))) (c .before .before .before .before .before .before .before .before .pre .2)
+returns-4 c =
+    let far = c .before .before .before .before .before .before .before .before in
+    put-up-to _ _ (bytes-eight _ _ (last-kind (c .before .before .before .before))) (c .before .before .put-fixed2 .ensures) _
+    (omega (arith, eight-fits (c .before .before .before .before))) (far .pre .2)
 
 pub prepend-value-spec : {M : Type 1} → statement M
 prepend-value-spec =

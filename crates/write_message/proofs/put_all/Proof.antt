@@ -33,7 +33,9 @@ loop-less c = search needs
 loop-again : tie.Need-loop-again Inv-loop μ-loop
 loop-again c =
     let a = c .before .before .before .before .before .before .before .before .before .before in
-    forward-more (a .pre .0) (a .pre .1) (c .before .before .before .before .before .before .loop .inv) (c .before .before .before .before .before .loop-test .taken) (c .before .before .before .before .load .ensures) (c .before .before .put-record .ensures)
+    forward-more (a .pre .0) (a .pre .1) (c .before .before .before .before .before .before .loop .inv)
+    (c .before .before .before .before .before .loop-test .taken) (c .before .before .before .before .load .ensures)
+    (c .before .before .put-record .ensures)
 
 same-length : tie.Need-same-length Inv-loop μ-loop
 same-length c = spans-length (c .before .loop .inv .put)

@@ -30,7 +30,10 @@ same-length : tie.Need-same-length
 same-length c = search needs
 
 returns : tie.Need-returns
-returns c = spans-as (whole _ _ _ (c .before .before .before .before .before .before .before .before .before .before .before .before .pre .0)) (spans-behind (c .before .before .before .before .before .before .put-number .ensures) (c .before .before .put-value .ensures))
+returns c =
+    let far = c .before .before .before .before .before .before .before .before .before .before .before .before in
+    spans-as (whole _ _ _ (far .pre .0))
+    (spans-behind (c .before .before .before .before .before .before .put-number .ensures) (c .before .before .put-value .ensures))
 
 pub put-record-spec : {M : Type 1} → statement M
 put-record-spec =

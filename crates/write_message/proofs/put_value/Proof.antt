@@ -32,7 +32,8 @@ same-length-2 c = search needs
 returns-2 : tie.Need-returns-2
 returns-2 c =
     let a = c .before .before .before .before .before .before .before .before .before .before .before .before in
-    put-payload _ _ _ (a .pre .0) (omega arith) (a .pre .1) (c .before .before .before .before .before .before .put-number2 .ensures) (c .before .before .put-part .ensures)
+    put-payload _ _ _ (a .pre .0) (omega arith) (a .pre .1) (c .before .before .before .before .before .before .put-number2 .ensures)
+    (c .before .before .put-part .ensures)
 
 put-fixed-requires : tie.Need-put-fixed-requires
 put-fixed-requires c κs = search needs
@@ -41,7 +42,9 @@ same-length-3 : tie.Need-same-length-3
 same-length-3 c = search needs
 
 returns-3 : tie.Need-returns-3
-returns-3 c = put-as _ _ (bytes-four _ _ (c .before .before .before .before .if3 .taken)) (c .before .before .put-fixed .ensures) (c .before .before .before .before .before .before .before .before .pre .1)
+returns-3 c =
+    let far = c .before .before .before .before .before .before .before .before in
+    put-as _ _ (bytes-four _ _ (c .before .before .before .before .if3 .taken)) (c .before .before .put-fixed .ensures) (far .pre .1)
 
 put-fixed-requires-2 : tie.Need-put-fixed-requires-2
 put-fixed-requires-2 c κs = search needs

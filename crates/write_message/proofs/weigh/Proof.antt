@@ -37,7 +37,9 @@ enum-known-why : tie.Need-enum-known-why Inv-loop μ-loop
 enum-known-why c = search needs
 
 returns-3 : tie.Need-returns-3 Inv-loop μ-loop
-returns-3 c = turn-bad (c .before .before .before .before .before .before .loop .inv) (c .before .before .before .before .before .loop-test .taken) (c .before .before .before .before .load .ensures) (c .before .before .before .weigh-record .ensures) _ (c .before .why .given .1)
+returns-3 c =
+    turn-bad (c .before .before .before .before .before .before .loop .inv) (c .before .before .before .before .before .loop-test .taken)
+    (c .before .before .before .before .load .ensures) (c .before .before .before .weigh-record .ensures) _ (c .before .why .given .1)
 
 enum-known-n : tie.Need-enum-known-n Inv-loop μ-loop
 enum-known-n c = search needs
@@ -52,7 +54,10 @@ loop-less : tie.Need-loop-less Inv-loop μ-loop
 loop-less c = search needs
 
 loop-again : tie.Need-loop-again Inv-loop μ-loop
-loop-again c = turn-more (c .before .before .before .before .before .before .before .loop .inv) (c .before .before .before .before .before .before .loop-test .taken) (c .before .before .before .before .before .load .ensures) (c .before .before .before .before .weigh-record .ensures) _ (c .before .before .n .given .1) (c .spend .ensures)
+loop-again c =
+    turn-more (c .before .before .before .before .before .before .before .loop .inv)
+    (c .before .before .before .before .before .before .loop-test .taken) (c .before .before .before .before .before .load .ensures)
+    (c .before .before .before .before .weigh-record .ensures) _ (c .before .before .n .given .1) (c .spend .ensures)
 
 returns-4 : tie.Need-returns-4 Inv-loop μ-loop
 returns-4 c = weigh-done (c .before .loop .inv) (c .loop-test .left)

@@ -17,7 +17,8 @@ enum-known-n c = search needs
 
 prepend-all-requires : tie.Need-prepend-all-requires
 prepend-all-requires c κs =
-    let a = c .before .before .before .before .before .before .before .before .args in
+    let far = c .before .before .before .before .before .before .before .before in
+    let a = far .args in
     roomy (a .buf .now) (a .most) (a .source .now) (a .table .now) (a .count) (c .before .before .before .before .fit .ensures) (c .before .before .n .given .1)
 
 returns : tie.Need-returns
@@ -28,7 +29,9 @@ same-length : tie.Need-same-length
 same-length c = search needs
 
 returns-2 : tie.Need-returns-2
-returns-2 c = back-done _ _ _ _ _ (c .before .before .before .before .before .before .before .fit .ensures) (c .before .before .before .before .before .n .given .1) (c .before .before .prepend-all .ensures)
+returns-2 c =
+    back-done _ _ _ _ _ (c .before .before .before .before .before .before .before .fit .ensures)
+    (c .before .before .before .before .before .n .given .1) (c .before .before .prepend-all .ensures)
 
 pub write-back-spec : {M : Type 1} → statement M
 write-back-spec =

@@ -28,7 +28,9 @@ same-length : tie.Need-same-length
 same-length c = search needs
 
 returns-2 : tie.Need-returns-2
-returns-2 c = front-done _ _ _ _ _ (c .before .before .before .before .before .before .fit .ensures) (c .before .before .before .before .enum-told .given .1) (c .before .before .put-all .ensures)
+returns-2 c =
+    front-done _ _ _ _ _ (c .before .before .before .before .before .before .fit .ensures) (c .before .before .before .before .enum-told .given .1)
+    (c .before .before .put-all .ensures)
 
 pub write-front-spec : {M : Type 1} → statement M
 write-front-spec =

@@ -6,17 +6,22 @@ use native.Mathlib.Omega.{arith}
 use Rattle.wire.specs.VarintLaws.{length-le}
 use Rattle.wire.specs.Table.{good}
 use Rattle.write_record.specs.Records.{recordSize}
-use Rattle.write_record.specs.RecordLaws.{bad-tag, good-tag, value-good, value-bad, value-short, judge-bad, judge-falls, judge-good, weigh-bad, weigh-fine}
+use Rattle.write_record.specs.RecordLaws.{bad-tag, good-tag, value-good, value-bad, value-short, judge-bad, judge-falls, judge-good, weigh-bad}
+use Rattle.write_record.specs.RecordLaws.{weigh-fine}
 use Rattle.wire.specs.declared.Weight.the-variants.{Bad}
 use borrow.Author.Needs.{needs}
 use Rattle.write_record.proofs.weigh_record.Statement.{statement}
 use Rattle.write_record.proofs.weigh_record.Tie as tie
 
 -- the record is good
-sound : (c : tie.After-struct-known2) → good (c .before .before .before .before .before .before .before .args .size) (c .before .before .before .before .before .before .before .args .r) ≡ true
+sound : (c : tie.After-struct-known2)
+    → good (c .before .before .before .before .before .before .before .args .size)
+    (c .before .before .before .before .before .before .before .args .r) ≡ true
 sound c =
     let a = c .before .before .before .before .before .before .before .args in
-    good-tag (a .size) (a .r) (omega arith) ∙ value-good (a .size) (a .r .kind) (a .r .value) (a .r .length) _ (c .before .before .before .before .weigh-value .ensures) (c .before .before .n .given .1) .0
+    good-tag (a .size) (a .r) (omega arith)
+    ∙ value-good (a .size) (a .r .kind) (a .r .value) (a .r .length) _ (c .before .before .before .before .weigh-value .ensures)
+    (c .before .before .n .given .1) .0
 
 returns : tie.Need-returns
 returns c = sym (weigh-bad _ _ _ _ (judge-bad _ _ _ (bad-tag _ _ (omega arith))))
@@ -41,9 +46,17 @@ number-len-requires c κs = search needs
 
 add-t15 : tie.Need-add-t15
 add-t15 c =
-    let a = c .before .before .before .before .before .before .before .before .before .before .args in
+    let far = c .before .before .before .before .before .before .before .before .before .before in
+    let a = far .args in
     let v = value-good (a .size) (a .r .kind) (a .r .value) (a .r .length) _ (c .before .before .before .before .before .before .before .weigh-value .ensures) (c .before .before .before .before .before .n .given .1) in
-    omega (arith, c .number-len .ensures, length-le (4 * (a .r .tag - a .prev)), v .1, value-short (a .size) (a .r .kind) (a .r .value) (a .r .length) (v .0), c .before .before .before .before .before .before .before .before .before .before .fits .size .fits)
+    omega (
+      arith,
+      c .number-len .ensures,
+      length-le (4 * (a .r .tag - a .prev)),
+      v .1,
+      value-short (a .size) (a .r .kind) (a .r .value) (a .r .length) (v .0),
+      far .fits .size .fits,
+    )
 
 returns-3 : tie.Need-returns-3
 returns-3 c =

@@ -26,7 +26,13 @@ number-len-requires-2 : tie.Need-number-len-requires-2
 number-len-requires-2 c κs = search needs
 
 add-t15 : tie.Need-add-t15
-add-t15 c = omega (arith, c .number-len2 .ensures, length-le (c .before .before .before .before .before .args .length), c .before .before .before .before .before .fits .size .fits)
+add-t15 c =
+    omega (
+      arith,
+      c .number-len2 .ensures,
+      length-le (c .before .before .before .before .before .args .length),
+      c .before .before .before .before .before .fits .size .fits,
+    )
 
 returns-4 : tie.Need-returns-4
 returns-4 c = rw (c .number-len2 .ensures) (sym (value-payload _ _ _ _ (omega arith) (omega arith)))
