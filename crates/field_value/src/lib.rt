@@ -4,7 +4,7 @@ ghost use mathlib.Core.List.{_∷_, []};
 ghost use Prim.Native.Nat.{_+_, _≤_};
 ghost use lib.ListN.{length, take, drop};
 ghost use Rattle.wire.specs.Fixed.{number};
-ghost use Rattle.wire.specs.Reading.{wireOf, valueAt};
+ghost use Rattle.wire.specs.Reading.{valueAt};
 ghost use Rattle.field_value.specs.Inside.{inside};
 ghost use Rattle.wire.specs.declared.WireType.the-variants.{Varint, LengthDelimited, ThirtyTwoBit, SixtyFourBit};
 use wire::Refusal;
@@ -13,7 +13,7 @@ use wire::ValueFound;
 use wire::VarintFound;
 use wire::WireType;
 
-fn number_at(s: &[u8], at: usize, end: usize) -> ValueFound
+pub fn number_at(s: &[u8], at: usize, end: usize) -> ValueFound
     ensures { λ r. ⌜ r ≡ valueAt (now (s .entry)) end at Varint ⌝ }
 {
     match varint_read::decode_varint_capped(s, at, end) {
@@ -22,7 +22,7 @@ fn number_at(s: &[u8], at: usize, end: usize) -> ValueFound
     }
 }
 
-fn payload_at(s: &[u8], at: usize, end: usize) -> ValueFound
+pub fn payload_at(s: &[u8], at: usize, end: usize) -> ValueFound
     ensures { λ r. ⌜ r ≡ valueAt (now (s .entry)) end at LengthDelimited ⌝ }
 {
     match varint_read::decode_varint(s, at) {
@@ -68,7 +68,7 @@ fn has(len: usize, at: usize, end: usize, n: usize) -> bool
     at + n <= end
 }
 
-fn four_at(s: &[u8], at: usize, end: usize) -> ValueFound
+pub fn four_at(s: &[u8], at: usize, end: usize) -> ValueFound
     ensures { λ r. ⌜ r ≡ valueAt (now (s .entry)) end at ThirtyTwoBit ⌝ }
 {
     if has(s.len(), at, end, 4) {
@@ -77,7 +77,7 @@ fn four_at(s: &[u8], at: usize, end: usize) -> ValueFound
     ValueFound::Refused(Refusal::Truncated)
 }
 
-fn eight_at(s: &[u8], at: usize, end: usize) -> ValueFound
+pub fn eight_at(s: &[u8], at: usize, end: usize) -> ValueFound
     ensures { λ r. ⌜ r ≡ valueAt (now (s .entry)) end at SixtyFourBit ⌝ }
 {
     if has(s.len(), at, end, 8) {
@@ -86,22 +86,6 @@ fn eight_at(s: &[u8], at: usize, end: usize) -> ValueFound
         return ValueFound::Got(Value::SixtyFourBit(low + high * 0x1_0000_0000), at + 8);
     }
     ValueFound::Refused(Refusal::Truncated)
-}
-
-// A value by the number of its type: two tests, no table of jumps. It has one caller, and so is folded into it.
-pub fn value_of_kind(s: &[u8], at: usize, end: usize, kind: u64) -> ValueFound
-    ensures { λ r. ⌜ r ≡ valueAt (now (s .entry)) end at (wireOf kind) ⌝ }
-{
-    if kind < 2 {
-        if kind == 0 {
-            return number_at(s, at, end);
-        }
-        return payload_at(s, at, end);
-    }
-    if kind == 2 {
-        return four_at(s, at, end);
-    }
-    eight_at(s, at, end)
 }
 
 // A value of a wire type.
@@ -114,52 +98,4 @@ pub fn decode_value(s: &[u8], at: usize, end: usize, wire: WireType) -> ValueFou
         WireType::ThirtyTwoBit => four_at(s, at, end),
         WireType::SixtyFourBit => eight_at(s, at, end),
     }
-}
-
-// A value by the number of its type: two tests, no table of jumps. It has one caller, and so is folded into it.
-pub fn value_by_kind(s: &[u8], at: usize, end: usize, kind: u64) -> ValueFound
-    ensures { λ r. ⌜ r ≡ valueAt (now (s .entry)) end at (wireOf kind) ⌝ }
-{
-    if kind < 2 {
-        if kind == 0 {
-            return number_at(s, at, end);
-        }
-        return payload_at(s, at, end);
-    }
-    if kind == 2 {
-        return four_at(s, at, end);
-    }
-    eight_at(s, at, end)
-}
-
-// A value by the number of its type: two tests, no table of jumps. It has one caller, and so is folded into it.
-pub fn value_of_type(s: &[u8], at: usize, end: usize, kind: u64) -> ValueFound
-    ensures { λ r. ⌜ r ≡ valueAt (now (s .entry)) end at (wireOf kind) ⌝ }
-{
-    if kind < 2 {
-        if kind == 0 {
-            return number_at(s, at, end);
-        }
-        return payload_at(s, at, end);
-    }
-    if kind == 2 {
-        return four_at(s, at, end);
-    }
-    eight_at(s, at, end)
-}
-
-// A value by the number of its type: two tests, no table of jumps. It has one caller, and so is folded into it.
-pub fn value_in_pass(s: &[u8], at: usize, end: usize, kind: u64) -> ValueFound
-    ensures { λ r. ⌜ r ≡ valueAt (now (s .entry)) end at (wireOf kind) ⌝ }
-{
-    if kind < 2 {
-        if kind == 0 {
-            return number_at(s, at, end);
-        }
-        return payload_at(s, at, end);
-    }
-    if kind == 2 {
-        return four_at(s, at, end);
-    }
-    eight_at(s, at, end)
 }

@@ -1,3 +1,5 @@
-pub mod Walk
+pub mod Walking
 pub mod Seen
+pub mod Going
+pub mod Reaching
 pub mod Only

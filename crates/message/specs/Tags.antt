@@ -34,7 +34,7 @@ sought t k (reading.Refused r p) = Refused r
 
 -- ---- a list that grows by a field
 
-of-append : (t : ℕ) (fs gs : List Field) → ofTag t (fs ++ gs) ≡ ofTag t fs ++ ofTag t gs
+pub of-append : (t : ℕ) (fs gs : List Field) → ofTag t (fs ++ gs) ≡ ofTag t fs ++ ofTag t gs
 of-append t [] gs = refl
 of-append t (f ∷ fs) gs = go (eqb (f .tag) t) refl (of-append t fs gs)
   where
@@ -47,3 +47,7 @@ of-other t fs f h = of-append t fs (f ∷ []) ∙ rw (ne-eqb (f .tag) t h) (appe
 
 pub of-same : (t : ℕ) (fs : List Field) (f : Field) → f .tag ≡ t → ofTag t (fs ++ f ∷ []) ≡ ofTag t fs ++ f ∷ []
 of-same t fs f h = of-append t fs (f ∷ []) ∙ rw (eq-eqb (f .tag) t h)
+
+-- a list with no field of the tag behind it
+pub of-unlike : (t : ℕ) (fs gs : List Field) → ofTag t gs ≡ [] → ofTag t (fs ++ gs) ≡ ofTag t fs
+of-unlike t fs gs h = of-append t fs gs ∙ rw h (append-nil (ofTag t fs))

@@ -1,10 +1,11 @@
 // A whole message: decided and counted, or decided and searched for one tag. Nothing is written. From src/encoding/message.rs (`merge`) and
 // opaque.rs of bilrost.
 ghost use mathlib.Core.Path.{_≡_};
-ghost use Rattle.wire.specs.Fixed.{number};
+ghost use lib.ListN.{length};
 ghost use Rattle.wire.specs.Reading.{readMessage};
 ghost use Rattle.message.specs.Deciding.{decided};
 ghost use Rattle.message.specs.Tags.{sought};
+ghost use Rattle.message.specs.Walks.{walked};
 use wire::Field;
 use wire::FieldFound;
 use wire::Refusal;
@@ -21,6 +22,14 @@ pub enum Decided {
 pub enum Sought {
     Found(Field, usize),
     Absent(usize),
+    Refused(Refusal),
+}
+
+// Where a walk stopped: the field that it looked for, with the place after it, or, if it went on to the end, with how many were wanted; else
+// how many were wanted, which were too few; or a refusal.
+pub enum Reached {
+    Field(Field, usize),
+    End(usize),
     Refused(Refusal),
 }
 
@@ -51,32 +60,50 @@ pub fn decide(s: &[u8], start: usize, end: usize) -> Decided
     Decided::Refused(Refusal::Truncated, mark)
 }
 
-// The field of a tag at a number, counted from 0, of a message that is read whole.
-pub fn find_tag(s: &[u8], start: usize, end: usize, tag: u32, number: usize) -> Sought
-    ensures { λ r. ⌜ r ≡ sought tag number (readMessage (now (s .entry)) start end) ⌝ }
+// The rest of a slice that is a message, from a place on. Wanted are the fields of a tag, or, if not exact, of that tag and all below it. The
+// walk stops at the wanted field at a number, or notes it and goes on to the end.
+// INLINE: the one walker of the library. Numbers and bools alone, no end: more parameters, or a struct of them, go through memory.
+pub fn walk(
+    s: &[u8],
+    at: usize,
+    last: u32,
+    want: u32,
+    exact: bool,
+    number: usize,
+    stop: bool,
+) -> Reached
+    ensures { λ r. ⌜ r ≡ walked (now (s .entry)) at last (record { want = want; exact = exact; number = number; stop = stop }) ⌝ }
 {
-    let mut p = start;
-    let mut last: u32 = 0;
+    let mut p = at;
+    let mut tag = last;
     let mut many: usize = 0;
     let mut found = Field {
         tag: 0,
         value: Value::Varint(0),
     };
     loop {
-        match field::next_field(s, p, end, last) {
+        match field::next_field(s, p, s.len(), tag) {
             Stepped::Refused(r) => {
-                return Sought::Refused(r);
+                return Reached::Refused(r);
             }
             Stepped::End => {
                 break;
             }
             Stepped::Field(f, next) => {
                 p = next;
-                last = f.tag;
-                if last != tag {
-                    continue;
+                tag = f.tag;
+                if tag != want {
+                    if exact {
+                        continue;
+                    }
+                    if want < tag {
+                        continue;
+                    }
                 }
                 if many == number {
+                    if stop {
+                        return Reached::Field(f, next);
+                    }
                     found = f;
                 }
                 many += 1;
@@ -84,7 +111,18 @@ pub fn find_tag(s: &[u8], start: usize, end: usize, tag: u32, number: usize) -> 
         }
     }
     if number < many {
-        return Sought::Found(found, many);
+        return Reached::Field(found, many);
     }
-    Sought::Absent(many)
+    Reached::End(many)
+}
+
+// The field of a tag at a number, counted from 0, of a slice that is a message and is read whole.
+pub fn find_tag(s: &[u8], tag: u32, number: usize) -> Sought
+    ensures { λ r. ⌜ r ≡ sought tag number (readMessage (now (s .entry)) 0 (length (now (s .entry)))) ⌝ }
+{
+    match walk(s, 0, 0, tag, true, number, false) {
+        Reached::Refused(r) => Sought::Refused(r),
+        Reached::End(n) => Sought::Absent(n),
+        Reached::Field(f, n) => Sought::Found(f, n),
+    }
 }

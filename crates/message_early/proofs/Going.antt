@@ -9,7 +9,7 @@ use Rattle.wire.specs.ReadingLaws.{field-moves}
 use Rattle.wire.specs.declared.Refusal.{Refusal}
 use Rattle.wire.specs.declared.Field.{Field}
 use Rattle.message.specs.Tags.{ofTag}
-use Rattle.message.proofs.Walk.{positive}
+use Rattle.message.proofs.Walking.{positive}
 use Rattle.message.proofs.Seen.{Seen}
 use Rattle.message_early.specs.Early.{sightAt, Stop, Ends, Above, Refused, also, stopsFrom, stop, only, toldOf}
 use Rattle.message_early.specs.Laws.{sight-field}

@@ -18,7 +18,7 @@ use Rattle.wire.specs.declared.ValueFound.the-variants as valueFound
 use Rattle.message_table.specs.Into.{intoTable}
 use Rattle.message_table.specs.Second.{Fits, Varinted, Valued, Worded}
 use Rattle.message_table.proofs.Present.{value-kind, same-varint}
-use Rattle.message.proofs.Walk.{positive}
+use Rattle.message.proofs.Walking.{positive}
 
 -- the rest is known to be good and to have room
 pub record Filling (s : List ℕ) (e : ℕ) (goal : List ℕ) (p last i : ℕ) (t : List ℕ) : Type 0 where

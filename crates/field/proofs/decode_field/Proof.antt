@@ -1,8 +1,9 @@
 -- A key, then the value of its type.
 use mathlib.Core.Path.{_≡_, _∙_, ap, sym}
-use Rattle.wire.specs.Reading.{tagged, fieldAt, valueAt, wireOf}
+use mathlib.Core.Logic.{⊎-elim}
+use Rattle.wire.specs.Reading.{tagged, fieldAt}
 use Rattle.wire.specs.StepLaws.{field-keyed, field-keyless}
-use Rattle.wire.specs.Types.{wire-type}
+use Rattle.field.proofs.Dispatch.{number, payload, four, eight, of-wire}
 use borrow.Author.Needs.{needs}
 use Rattle.field.proofs.decode_field.Statement.{statement}
 use Rattle.field.proofs.decode_field.Tie as tie
@@ -19,25 +20,39 @@ enum-known-key c = search needs
 wire-number-requires : tie.Need-wire-number-requires
 wire-number-requires c κs = search needs
 
-value-of-kind-requires : tie.Need-value-of-kind-requires
-value-of-kind-requires c κs = search needs
+number-at-requires : tie.Need-number-at-requires
+number-at-requires c κs = search needs
 
-enum-known-r-2 : tie.Need-enum-known-r-2
-enum-known-r-2 c = search needs
+payload-at-requires : tie.Need-payload-at-requires
+payload-at-requires c κs = search needs
 
-enum-known-v : tie.Need-enum-known-v
-enum-known-v c = search needs
+four-at-requires : tie.Need-four-at-requires
+four-at-requires c κs = search needs
+
+eight-at-requires : tie.Need-eight-at-requires
+eight-at-requires c κs = search needs
+
+enum-known-found : tie.Need-enum-known-found
+enum-known-found c = search needs
+
+enum-known-found-2 : tie.Need-enum-known-found-2
+enum-known-found-2 c = search needs
 
 -- the field is its value under its tag
-valued : (c : tie.After-value-of-kind) → let a = c .before .before .before .before .before .before .before .args in
-    fieldAt (a .s .now) (a .end) (a .at) (a .last) ≡ tagged (c .before .before .before .key .given .0 .0 .tag) (c .value-of-kind .result)
+valued : (c : tie.Joined1) → let a = c .before .before .before .before .before .before .before .args in
+    fieldAt (a .s .now) (a .end) (a .at) (a .last) ≡ tagged (c .before .before .before .key .given .0 .0 .tag) (c .if1 .found)
 valued c =
-    let k = c .before .before .before in
+    let n = c .before in
+    let k = n .before .before in
+    let g = k .key .given in
     let a = k .before .before .before .before .args in
-    let w = k .key .given .0 .0 .wire in
-    let kind : wireOf (c .before .wire-number .result) ≡ w = ap wireOf (c .before .wire-number .ensures) ∙ wire-type w in
-    field-keyed _ _ _ _ (sym (k .before .before .decode-key .ensures) ∙ k .key .given .1)
-    ∙ sym (ap (tagged (k .key .given .0 .0 .tag)) (c .value-of-kind .ensures ∙ ap (valueAt (a .s .now) (a .end) (k .key .given .0 .1 .0)) kind))
+    let found =
+    of-wire (a .s .now) (a .end) (g .0 .1 .0) (n .wire-number .result) (g .0 .0 .wire) (c .if1 .found) (n .wire-number .ensures)
+    (⊎-elim (λ w. number (w .1 .taken) (w .3 ∙ w .2 .ensures))
+    (⊎-elim (λ w. payload (w .0 .taken) (w .1 .left) (w .3 ∙ w .2 .ensures))
+    (⊎-elim (λ w. four (w .1 .taken) (w .3 ∙ w .2 .ensures)) (λ w. eight (w .0 .left) (w .1 .left) (w .3 ∙ w .2 .ensures))))
+    (c .if1 .came)) in
+    field-keyed _ _ _ _ (sym (k .before .before .decode-key .ensures) ∙ g .1) ∙ ap (tagged (g .0 .0 .tag)) (sym found)
 
 returns : tie.Need-returns
 returns c = sym (field-keyless _ _ _ _ (sym (c .before .before .before .decode-key .ensures) ∙ c .before .r .given .1))
@@ -45,12 +60,12 @@ returns c = sym (field-keyless _ _ _ _ (sym (c .before .before .before .decode-k
 returns-2 : tie.Need-returns-2
 returns-2 c =
     let v = c .before .before .before in
-    sym (valued v ∙ ap (tagged (v .before .before .before .key .given .0 .0 .tag)) (c .before .r2 .given .1))
+    sym (valued v ∙ ap (tagged (v .before .before .before .key .given .0 .0 .tag)) (c .before .found .given .1))
 
 returns-3 : tie.Need-returns-3
 returns-3 c =
     let v = c .before .before .before in
-    sym (valued v ∙ ap (tagged (v .before .before .before .key .given .0 .0 .tag)) (c .before .v .given .1))
+    sym (valued v ∙ ap (tagged (v .before .before .before .key .given .0 .0 .tag)) (c .before .found2 .given .1))
 
 pub decode-field-spec : {M : Type 1} → statement M
 decode-field-spec =
@@ -60,9 +75,12 @@ decode-field-spec =
     enum-known-r
     enum-known-key
     wire-number-requires
-    value-of-kind-requires
-    enum-known-r-2
-    enum-known-v
+    number-at-requires
+    payload-at-requires
+    four-at-requires
+    eight-at-requires
+    enum-known-found
+    enum-known-found-2
     returns
     returns-2
     returns-3)

@@ -1,11 +1,12 @@
 -- At the end, past it, and before it a field.
 use mathlib.Core.Path.{_≡_, _∙_, ap, sym}
+use mathlib.Core.Logic.{⊎-elim}
 use native.Mathlib.Omega.{arith}
 use Prim.Native.Nat.{_<_}
-use Rattle.wire.specs.Reading.{tagged, stepOf, stepAt, valueAt, wireOf}
-use Rattle.wire.specs.Types.{wire-type}
+use Rattle.wire.specs.Reading.{tagged, stepOf, stepAt}
 use Rattle.wire.specs.StepLaws.{field-keyed, field-keyless, step-before, step-at, step-past}
 use Rattle.wire.specs.declared.ValueFound.{ValueFound}
+use Rattle.field.proofs.Dispatch.{number, payload, four, eight, of-wire}
 use borrow.Author.Needs.{needs}
 use Rattle.field.proofs.next_field.Statement.{statement}
 use Rattle.field.proofs.next_field.Tie as tie
@@ -28,30 +29,45 @@ enum-known-key c = search needs
 wire-number-requires : tie.Need-wire-number-requires
 wire-number-requires c κs = search needs
 
-value-by-kind-requires : tie.Need-value-by-kind-requires
-value-by-kind-requires c κs = search needs
+number-at-requires : tie.Need-number-at-requires
+number-at-requires c κs = search needs
 
-enum-known-r-2 : tie.Need-enum-known-r-2
-enum-known-r-2 c = search needs
+payload-at-requires : tie.Need-payload-at-requires
+payload-at-requires c κs = search needs
 
-enum-known-v : tie.Need-enum-known-v
-enum-known-v c = search needs
+four-at-requires : tie.Need-four-at-requires
+four-at-requires c κs = search needs
 
-before : (c : tie.Else2) → let a = c .before .before .before .args in a .at < a .end
+eight-at-requires : tie.Need-eight-at-requires
+eight-at-requires c κs = search needs
+
+enum-known-value : tie.Need-enum-known-value
+enum-known-value c = search needs
+
+enum-known-value-2 : tie.Need-enum-known-value-2
+enum-known-value-2 c = search needs
+
+before : (c : tie.Else2) → let a = c .before .before .before .args in a .from < a .end
 before c = let n = c .before .if1 .left in omega arith
 
 -- the step is the value under its tag
-valued : (c : tie.After-value-by-kind) → let a = c .before .before .before .before .before .before .before .before .before .args in
-    stepAt (a .s .now) (a .end) (a .at) (a .last) ≡ stepOf (tagged (c .before .before .before .key .given .0 .0 .tag) (c .value-by-kind .result))
+valued : (c : tie.Joined3) → let a = c .before .before .before .before .before .before .before .before .before .args in
+    stepAt (a .s .now) (a .end) (a .from) (a .last) ≡ stepOf (tagged (c .before .before .before .key .given .0 .0 .tag) (c .if3 .value))
 valued c =
-    let k = c .before .before .before in
+    let n = c .before in
+    let k = n .before .before in
+    let g = k .key .given in
     let b = k .before .before .before in
     let a = b .before .before .before .args in
-    let w = k .key .given .0 .0 .wire in
-    let kind : wireOf (c .before .wire-number .result) ≡ w = ap wireOf (c .before .wire-number .ensures) ∙ wire-type w in
+    let found =
+    of-wire (a .s .now) (a .end) (g .0 .1 .0) (n .wire-number .result) (g .0 .0 .wire) (c .if3 .value) (n .wire-number .ensures)
+    (⊎-elim (λ w. number (w .1 .taken) (w .3 ∙ w .2 .ensures))
+    (⊎-elim (λ w. payload (w .0 .taken) (w .1 .left) (w .3 ∙ w .2 .ensures))
+    (⊎-elim (λ w. four (w .1 .taken) (w .3 ∙ w .2 .ensures)) (λ w. eight (w .0 .left) (w .1 .left) (w .3 ∙ w .2 .ensures))))
+    (c .if3 .came)) in
     step-before _ _ _ _ (before b)
-    ∙ ap stepOf (field-keyed _ _ _ _ (sym (k .before .before .decode-key .ensures) ∙ k .key .given .1))
-    ∙ ap (λ (r : ValueFound). stepOf (tagged (k .key .given .0 .0 .tag) r)) (sym (c .value-by-kind .ensures ∙ ap (valueAt (a .s .now) (a .end) (k .key .given .0 .1 .0)) kind))
+    ∙ ap stepOf (field-keyed _ _ _ _ (sym (k .before .before .decode-key .ensures) ∙ g .1))
+    ∙ ap (λ (r : ValueFound). stepOf (tagged (g .0 .0 .tag) r)) (sym found)
 
 returns-3 : tie.Need-returns-3
 returns-3 c =
@@ -61,12 +77,12 @@ returns-3 c =
 returns-4 : tie.Need-returns-4
 returns-4 c =
     let d = c .before .before .before in
-    sym (valued d ∙ ap (λ (r : ValueFound). stepOf (tagged (d .before .before .before .key .given .0 .0 .tag) r)) (c .before .r2 .given .1))
+    sym (valued d ∙ ap (λ (r : ValueFound). stepOf (tagged (d .before .before .before .key .given .0 .0 .tag) r)) (c .before .value .given .1))
 
 returns-5 : tie.Need-returns-5
 returns-5 c =
     let d = c .before .before .before in
-    sym (valued d ∙ ap (λ (r : ValueFound). stepOf (tagged (d .before .before .before .key .given .0 .0 .tag) r)) (c .before .v .given .1))
+    sym (valued d ∙ ap (λ (r : ValueFound). stepOf (tagged (d .before .before .before .key .given .0 .0 .tag) r)) (c .before .value2 .given .1))
 
 pub next-field-spec : {M : Type 1} → statement M
 next-field-spec =
@@ -78,9 +94,12 @@ next-field-spec =
     enum-known-r
     enum-known-key
     wire-number-requires
-    value-by-kind-requires
-    enum-known-r-2
-    enum-known-v
+    number-at-requires
+    payload-at-requires
+    four-at-requires
+    eight-at-requires
+    enum-known-value
+    enum-known-value-2
     returns-3
     returns-4
     returns-5)

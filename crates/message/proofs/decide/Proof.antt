@@ -9,7 +9,7 @@ use Rattle.wire.specs.ReadingLaws.{field-moves}
 use Rattle.wire.specs.declared.Field.{Field}
 use Rattle.wire.specs.declared.FieldFound.the-variants.{Got}
 use Rattle.message.specs.Deciding.{decided}
-use Rattle.message.proofs.Walk.{Walk, walk-start, walk-field, walk-refused, walk-end, walk-past}
+use Rattle.message.proofs.Walking.{Walk, walk-start, walk-field, walk-refused, walk-end, walk-past}
 use borrow.Author.Needs.{needs}
 use Rattle.message.proofs.decide.Statement.{statement}
 use Rattle.message.proofs.decide.Tie as tie
