@@ -74,8 +74,8 @@ pub fn step_from(s: &[u8], at: usize, end: usize, last: u32) -> Stepped
 }
 
 // The same for the walk over a message.
-// INLINE: it has one caller, so that it is folded into the walk, and the kind is told by two tests: decode_value's match is a table of jumps. Called and
-// not folded, its answer comes back through memory once a field: soundings and lookups then take twice the instructions.
+// INLINE: it has one caller, so that it is folded into the walk; the kind is told by two tests, where decode_value's match is a table of jumps. With a
+// call for each field, whose answer comes back through memory, soundings take twice the instructions and lookups three times.
 pub fn next_field(s: &[u8], from: usize, end: usize, last: u32) -> Stepped
     ensures { λ r. ⌜ r ≡ stepAt (now (s .entry)) end from last ⌝ }
 {
@@ -115,16 +115,4 @@ pub fn next_field(s: &[u8], from: usize, end: usize, last: u32) -> Stepped
             }
         }
     }
-}
-
-pub fn walk_field(s: &[u8], at: usize, end: usize, last: u32) -> Stepped
-    ensures { λ r. ⌜ r ≡ stepAt (now (s .entry)) end at last ⌝ }
-{
-    step_from(s, at, end, last)
-}
-
-pub fn pass_field(s: &[u8], at: usize, end: usize, last: u32) -> Stepped
-    ensures { λ r. ⌜ r ≡ stepAt (now (s .entry)) end at last ⌝ }
-{
-    step_from(s, at, end, last)
 }

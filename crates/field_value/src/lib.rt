@@ -13,6 +13,7 @@ use wire::ValueFound;
 use wire::VarintFound;
 use wire::WireType;
 
+// A number, as a varint.
 pub fn number_at(s: &[u8], at: usize, end: usize) -> ValueFound
     ensures { λ r. ⌜ r ≡ valueAt (now (s .entry)) end at Varint ⌝ }
 {
@@ -22,6 +23,7 @@ pub fn number_at(s: &[u8], at: usize, end: usize) -> ValueFound
     }
 }
 
+// A payload behind its length, in the slice and before the end.
 pub fn payload_at(s: &[u8], at: usize, end: usize) -> ValueFound
     ensures { λ r. ⌜ r ≡ valueAt (now (s .entry)) end at LengthDelimited ⌝ }
 {
@@ -68,6 +70,7 @@ fn has(len: usize, at: usize, end: usize, n: usize) -> bool
     at + n <= end
 }
 
+// A value of four bytes.
 pub fn four_at(s: &[u8], at: usize, end: usize) -> ValueFound
     ensures { λ r. ⌜ r ≡ valueAt (now (s .entry)) end at ThirtyTwoBit ⌝ }
 {
@@ -77,6 +80,7 @@ pub fn four_at(s: &[u8], at: usize, end: usize) -> ValueFound
     ValueFound::Refused(Refusal::Truncated)
 }
 
+// A value of eight bytes.
 pub fn eight_at(s: &[u8], at: usize, end: usize) -> ValueFound
     ensures { λ r. ⌜ r ≡ valueAt (now (s .entry)) end at SixtyFourBit ⌝ }
 {

@@ -10,11 +10,10 @@ use Rattle.wire.specs.Reading.{stepAt}
 use Rattle.wire.specs.ReadingLaws.{field-moves}
 use Rattle.wire.specs.StepBack.{step-field}
 use Rattle.wire.specs.declared.Refusal.{Refusal}
-use Rattle.wire.specs.declared.Value.the-variants.{Varint}
 use Rattle.wire.specs.declared.Field.{Field}
 use Rattle.wire.specs.declared.Stepped.the-variants as stepped
 use Rattle.message.specs.declared.Reached.the-variants as reached
-use Rattle.message.specs.Walks.{Aim, wanted, unwanted-exact, unwanted-above, finished, walkFrom, walked}
+use Rattle.message.specs.Walks.{Aim, nothing, wanted, unwanted-exact, unwanted-above, finished, walkFrom, walked}
 use Rattle.message.specs.Walks.{from-refused, from-end, from-other, from-hit, from-noted, from-counted}
 use Rattle.message.proofs.Walking.{positive}
 
@@ -28,7 +27,7 @@ pub record Going (s : List ℕ) (at last : ℕ) (a : Aim) (p tag many : ℕ) (fo
   pub few : 2 * many ≤ p
   pub same : walked s at last a ≡ walkFrom k s a p tag many found
 
-pub going-start : (s : List ℕ) (at last : ℕ) (a : Aim) → Going s at last a at last 0 (record { tag = 0; value = Varint 0 })
+pub going-start : (s : List ℕ) (at last : ℕ) (a : Aim) → Going s at last a at last 0 nothing
 going-start s at last a = record { k = suc (length s); fuel = omega arith; few = omega arith; same = refl }
 
 -- of the wanted field at the number: it is noted, or another was

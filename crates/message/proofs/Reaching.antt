@@ -19,7 +19,7 @@ use Rattle.message.specs.declared.Reached.the-variants as reached
 use Rattle.message.specs.declared.Sought.{Sought}
 use Rattle.message.specs.declared.Sought.the-variants as soughtAs
 use Rattle.message.specs.Tags.{ofTag, sought}
-use Rattle.message.specs.Walks.{Aim, wanted, walkFrom, walked, wanted-same, unwanted-exact, finished-found, finished-end}
+use Rattle.message.specs.Walks.{Aim, count, until, nothing, wanted, walkFrom, walked, wanted-same, unwanted-exact, finished-found, finished-end}
 use Rattle.message.specs.Walks.{from-refused, from-end, from-other, from-hit, from-noted, from-counted}
 use Rattle.message.proofs.Walking.{Walk, walk-start, walk-step, walk-steps-end, walk-step-refused}
 use Rattle.message.proofs.Seen.{Seen, seen-none, seen-other, seen-same, seen-found, seen-absent}
@@ -31,9 +31,6 @@ abbrev pub soughtBy : Reached → Sought
 soughtBy (reached.Field f n) = soughtAs.Found f n
 soughtBy (reached.End n) = soughtAs.Absent n
 soughtBy (reached.Refused r) = soughtAs.Refused r
-
-abbrev pub count : ℕ → ℕ → Aim
-count t n = record { want = t; exact = true; number = n; stop = false }
 
 module _ (s : List ℕ) (t n : ℕ) where
   abbrev Told : Reached → Type 0
@@ -88,12 +85,9 @@ module _ (s : List ℕ) (t n : ℕ) where
 
   -- the walk over a whole message finds what is sought
   pub walk-sought : soughtBy (walked s 0 0 (count t n)) ≡ sought t n (readMessage s 0 (length s))
-  walk-sought = counts (suc (length s)) 0 0 0 0 [] _ (omega arith) (walk-start s 0 (length s)) (seen-none t n _)
+  walk-sought = counts (suc (length s)) 0 0 0 0 [] nothing (omega arith) (walk-start s 0 (length s)) (seen-none t n nothing)
 
 -- ---- up to the first field that is wanted
-
-abbrev pub until : ℕ → Bool → Aim
-until t exact = record { want = t; exact = exact; number = 0; stop = true }
 
 abbrev pub Unwanted : Aim → List Field → Type 0
 Unwanted a [] = Unit {0}
@@ -107,27 +101,55 @@ unwanted-of a t (g ∷ gs) h u = rw (ne-eqb (g .tag) t other) (unwanted-of a t g
     other : g .tag ≡ t → ⊥
     other e = let z : true ≡ false = sym h ∙ ap (wanted a) (sym e) ∙ u .0 in let y : _≡_ {A = ℕ} 0 1 = cc in absurd (omega arith)
 
--- where the walk stopped that went on from place p, behind the fields fs: the whole message is refused; or no other field of it is wanted; or the
--- field f is the next that is
-pub data Stops (s : List ℕ) (a : Aim) (p : ℕ) (fs : List Field) (r : Reached) : Type 0 where
-  refused : (x : Refusal) (at : ℕ) (told : r ≡ reached.Refused x) (whole : readMessage s 0 (length s) ≡ reading.Refused x at) → Stops s a p fs r
-  end : (n : ℕ) (gs : List Field) (told : r ≡ reached.End n) (none : Unwanted a gs) (whole : readMessage s 0 (length s) ≡ Fields (fs ++ gs)) → Stops s a p fs r
-  field : (f : Field) (q m at last : ℕ) (gs : List Field) (told : r ≡ reached.Field f q) (none : Unwanted a gs) (met : wanted a (f .tag) ≡ true)
-      (walk : Walk s 0 (length s) m at last (fs ++ gs)) (later : p ≤ at) (step : stepAt s (length s) at last ≡ stepped.Field f q) → Stops s a p fs r
+-- the message ended: no field behind those that were passed is wanted
+pub record Over (s : List ℕ) (a : Aim) (fs : List Field) : Type 0 where
+  pub gs : List Field
+  pub none : Unwanted a gs
+  pub whole : readMessage s 0 (length s) ≡ Fields (fs ++ gs)
+
+-- the field f, up to q, is the next that is wanted
+pub record Met (s : List ℕ) (a : Aim) (p : ℕ) (fs : List Field) (f : Field) (q : ℕ) : Type 0 where
+  pub m : ℕ
+  pub at : ℕ
+  pub last : ℕ
+  pub gs : List Field
+  pub none : Unwanted a gs
+  pub meant : wanted a (f .tag) ≡ true
+  pub walk : Walk s 0 (length s) m at last (fs ++ gs)
+  pub later : p ≤ at
+  pub step : stepAt s (length s) at last ≡ stepped.Field f q
+
+-- what the answer says of a walk from place p on, behind the fields fs
+abbrev pub Stops : List ℕ → Aim → ℕ → List Field → Reached → Type 0
+Stops s a p fs (reached.Refused r) = (at : ℕ) × (readMessage s 0 (length s) ≡ reading.Refused r at)
+Stops s a p fs (reached.End n) = Over s a fs
+Stops s a p fs (reached.Field f q) = Met s a p fs f q
 
 module _ (s : List ℕ) (t : ℕ) (exact : Bool) where
+  -- a walk of at most k steps
   abbrev Untils : ℕ → Type 0
   Untils k =
       (m p tag : ℕ) (fs : List Field) (found : Field) → length s - p < k → Walk s 0 (length s) m p tag fs
       → Stops s (until t exact) p fs (walkFrom k s (until t exact) p tag 0 found)
 
   -- from behind an unwanted field back to before it
-  back : (p q : ℕ) (fs : List Field) (f : Field) (r y : Reached) → wanted (until t exact) (f .tag) ≡ false → p ≤ q → y ≡ r
-      → Stops s (until t exact) q (fs ++ f ∷ []) r → Stops s (until t exact) p fs y
-  back p q fs f r y n l e (refused x at told whole) = refused x at (e ∙ told) whole
-  back p q fs f r y n l e (end i gs told none whole) = end i (f ∷ gs) (e ∙ told) (n, none) (whole ∙ ap Fields (append-assoc fs (f ∷ []) gs))
-  back p q fs f r y n l e (field g i m at last gs told none met walk later step) =
-      field g i m at last (f ∷ gs) (e ∙ told) (n, none) met (rw (append-assoc fs (f ∷ []) gs) at walk) (omega arith) step
+  back : (p q : ℕ) (fs : List Field) (f : Field) (r : Reached) → wanted (until t exact) (f .tag) ≡ false → p ≤ q
+      → Stops s (until t exact) q (fs ++ f ∷ []) r → Stops s (until t exact) p fs r
+  back p q fs f (reached.Refused r) n l x = x
+  back p q fs f (reached.End i) n l x =
+      record { gs = f ∷ x .gs; none = (n, x .none); whole = x .whole ∙ ap Fields (append-assoc fs (f ∷ []) (x .gs)) }
+  back p q fs f (reached.Field g i) n l x =
+      record {
+        m = x .m;
+        at = x .at;
+        last = x .last;
+        gs = f ∷ x .gs;
+        none = (n, x .none);
+        meant = x .meant;
+        walk = rw (append-assoc fs (f ∷ []) (x .gs)) at (x .walk);
+        later = omega (arith, l, x .later);
+        step = x .step;
+      }
 
   untils-more : (k : ℕ) → Untils k → Untils (suc k)
   untils-more k on m p tag fs found l w = go (stepAt s (length s) p tag) refl
@@ -135,17 +157,19 @@ module _ (s : List ℕ) (t : ℕ) (exact : Bool) where
       at-field : (f : Field) (q : ℕ) (b : Bool) → wanted (until t exact) (f .tag) ≡ b → stepAt s (length s) p tag ≡ stepped.Field f q
           → Stops s (until t exact) p fs (walkFrom (suc k) s (until t exact) p tag 0 found)
       at-field f q true b h =
-          field f q m p tag [] (from-hit k s (until t exact) p tag 0 found f q h b refl refl) tt b (rw (append-nil fs) w) (omega arith) h
+          rw (from-hit k s (until t exact) p tag 0 found f q h b refl refl)
+          (record { m = m; at = p; last = tag; gs = []; none = tt; meant = b; walk = rw (append-nil fs) w; later = omega arith; step = h })
       at-field f q false b h =
           let j = step-moves s p tag f q h in
-          back p q fs f (walkFrom k s (until t exact) q (f .tag) 0 found) _ b (omega (arith, j .0)) (from-other k s (until t exact) p tag 0 found f q h b)
-          (on p q (f .tag) (fs ++ f ∷ []) found (omega (arith, l, j .0, j .1)) (walk-step w f q h))
+          rw (from-other k s (until t exact) p tag 0 found f q h b)
+          (back p q fs f (walkFrom k s (until t exact) q (f .tag) 0 found) b (omega (arith, j .0))
+          (on p q (f .tag) (fs ++ f ∷ []) found (omega (arith, l, j .0, j .1)) (walk-step w f q h)))
 
       go : (r : Stepped) → stepAt s (length s) p tag ≡ r → Stops s (until t exact) p fs (walkFrom (suc k) s (until t exact) p tag 0 found)
-      go (stepped.Refused r) h = let x = walk-step-refused w r h in refused r (x .0) (from-refused k s (until t exact) p tag 0 found r h) (x .1)
+      go (stepped.Refused r) h = rw (from-refused k s (until t exact) p tag 0 found r h) (walk-step-refused w r h)
       go stepped.End h =
-          end 0 [] (from-end k s (until t exact) p tag 0 found h ∙ finished-end (until t exact) 0 found (omega arith)) tt
-          (walk-steps-end w h ∙ ap Fields (sym (append-nil fs)))
+          rw (from-end k s (until t exact) p tag 0 found h ∙ finished-end (until t exact) 0 found (omega arith))
+          (record { gs = []; none = tt; whole = walk-steps-end w h ∙ ap Fields (sym (append-nil fs)) })
       go (stepped.Field f q) h = at-field f q (wanted (until t exact) (f .tag)) refl h
 
   untils : (k : ℕ) → Untils k
@@ -153,5 +177,6 @@ module _ (s : List ℕ) (t : ℕ) (exact : Bool) where
   untils (suc k) m p tag fs found l w = untils-more k (untils k) m p tag fs found l w
 
   -- from any place of a walk
-  pub walk-until : {m p tag : ℕ} {fs : List Field} → Walk s 0 (length s) m p tag fs → Stops s (until t exact) p fs (walked s p tag (until t exact))
-  walk-until {m} {p} {tag} {fs} w = untils (suc (length s)) m p tag fs _ (omega arith) w
+  pub walk-until : {m p tag : ℕ} {fs : List Field} {r : Reached} → Walk s 0 (length s) m p tag fs → walked s p tag (until t exact) ≡ r
+      → Stops s (until t exact) p fs r
+  walk-until {m} {p} {tag} {fs} w e = rw e at (untils (suc (length s)) m p tag fs nothing (omega arith) w)

@@ -80,3 +80,11 @@ module _ {s : List ℕ} {start e m p last : ℕ} {fs : List Field} (w : Walk s s
       go (refused x a b c) = let y : stepped.Refused x ≡ stepped.Refused r = sym c ∙ h in let z : x ≡ r = cc in (p, walk-refused a x b ∙ cc)
       go (end a c) = absurd (omega (arith, ap way (sym c ∙ h)))
       go (past a c) = let y : stepped.Refused Truncated ≡ stepped.Refused r = sym c ∙ h in let z : Truncated ≡ r = cc in (m, walk-past a ∙ cc)
+
+  -- the rest of a message that is good
+  pub walk-rest : (all : List Field) → readMessage s start e ≡ Fields all → (gs : List Field) × (all ≡ fs ++ gs)
+  walk-rest all h = go (readsFrom (w .k) s e m p last) (sym (w .same) ∙ h)
+    where
+      go : (x : Message) → ahead fs x ≡ Fields all → (gs : List Field) × (all ≡ fs ++ gs)
+      go (Fields gs) y = let z : fs ++ gs ≡ all = cc in (gs, sym z)
+      go (Refused r at) y = let z : _≡_ {A = ℕ} 0 1 = cc in absurd (omega arith)

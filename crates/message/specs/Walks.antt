@@ -24,6 +24,14 @@ pub record Aim : Type 0 where
   pub number : ℕ
   pub stop : Bool
 
+-- all fields of a tag are counted up to the end, and the one at a number is noted
+abbrev pub count : ℕ → ℕ → Aim
+count t n = record { want = t; exact = true; number = n; stop = false }
+
+-- up to the first that is wanted
+abbrev pub until : ℕ → Bool → Aim
+until t exact = record { want = t; exact = exact; number = 0; stop = true }
+
 abbrev pub wanted : Aim → ℕ → Bool
 wanted a t = choose (a .exact) (eqb t (a .want)) (leb t (a .want))
 
@@ -52,9 +60,13 @@ unfoldable pub walkFrom : ℕ → List ℕ → Aim → ℕ → ℕ → ℕ → F
 walkFrom zero s a p tag many found = finished a many found
 walkFrom (suc k) s a p tag many found = walkOn a (stepAt s (length s) p tag) many found (λ f q n g. walkFrom k s a q (f .tag) n g)
 
+-- what stands for the field before one is noted
+abbrev pub nothing : Field
+nothing = record { tag = 0; value = val.Varint 0 }
+
 -- every step takes a byte at least
 abbrev pub walked : List ℕ → ℕ → ℕ → Aim → Reached
-walked s at last a = walkFrom (suc (length s)) s a at last 0 (record { tag = 0; value = val.Varint 0 })
+walked s at last a = walkFrom (suc (length s)) s a at last 0 nothing
 
 -- ---- case by case
 

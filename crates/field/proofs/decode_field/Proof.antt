@@ -3,7 +3,7 @@ use mathlib.Core.Path.{_≡_, _∙_, ap, sym}
 use mathlib.Core.Logic.{⊎-elim}
 use Rattle.wire.specs.Reading.{tagged, fieldAt}
 use Rattle.wire.specs.StepLaws.{field-keyed, field-keyless}
-use Rattle.field.proofs.Dispatch.{number, payload, four, eight, of-wire}
+use Rattle.field.proofs.Dispatch.{ByKind, number, payload, four, eight, of-wire}
 use borrow.Author.Needs.{needs}
 use Rattle.field.proofs.decode_field.Statement.{statement}
 use Rattle.field.proofs.decode_field.Tie as tie
@@ -38,21 +38,22 @@ enum-known-found c = search needs
 enum-known-found-2 : tie.Need-enum-known-found-2
 enum-known-found-2 c = search needs
 
+-- the four ways to the value meet
+met : (c : tie.Joined1) → let a = c .before .before .before .before .before .before .before .args in
+    ByKind (a .s .now) (a .end) (c .before .before .before .key .given .0 .1 .0) (c .before .wire-number .result) (c .if1 .found)
+met c =
+    ⊎-elim (λ w. number (w .1 .taken) (w .3 ∙ w .2 .ensures))
+    (⊎-elim (λ w. payload (w .0 .taken) (w .1 .left) (w .3 ∙ w .2 .ensures))
+    (⊎-elim (λ w. four (w .1 .taken) (w .3 ∙ w .2 .ensures)) (λ w. eight (w .0 .left) (w .1 .left) (w .3 ∙ w .2 .ensures))))
+    (c .if1 .came)
+
 -- the field is its value under its tag
 valued : (c : tie.Joined1) → let a = c .before .before .before .before .before .before .before .args in
     fieldAt (a .s .now) (a .end) (a .at) (a .last) ≡ tagged (c .before .before .before .key .given .0 .0 .tag) (c .if1 .found)
 valued c =
-    let n = c .before in
-    let k = n .before .before in
-    let g = k .key .given in
-    let a = k .before .before .before .before .args in
-    let found =
-    of-wire (a .s .now) (a .end) (g .0 .1 .0) (n .wire-number .result) (g .0 .0 .wire) (c .if1 .found) (n .wire-number .ensures)
-    (⊎-elim (λ w. number (w .1 .taken) (w .3 ∙ w .2 .ensures))
-    (⊎-elim (λ w. payload (w .0 .taken) (w .1 .left) (w .3 ∙ w .2 .ensures))
-    (⊎-elim (λ w. four (w .1 .taken) (w .3 ∙ w .2 .ensures)) (λ w. eight (w .0 .left) (w .1 .left) (w .3 ∙ w .2 .ensures))))
-    (c .if1 .came)) in
-    field-keyed _ _ _ _ (sym (k .before .before .decode-key .ensures) ∙ g .1) ∙ ap (tagged (g .0 .0 .tag)) (sym found)
+    let k = c .before .before .before in
+    field-keyed _ _ _ _ (sym (k .before .before .decode-key .ensures) ∙ k .key .given .1)
+    ∙ ap (tagged (k .key .given .0 .0 .tag)) (sym (of-wire _ _ _ _ (k .key .given .0 .0 .wire) _ (c .before .wire-number .ensures) (met c)))
 
 returns : tie.Need-returns
 returns c = sym (field-keyless _ _ _ _ (sym (c .before .before .before .decode-key .ensures) ∙ c .before .r .given .1))

@@ -6,7 +6,7 @@ use Prim.Native.Nat.{_<_}
 use Rattle.wire.specs.Reading.{tagged, stepOf, stepAt}
 use Rattle.wire.specs.StepLaws.{field-keyed, field-keyless, step-before, step-at, step-past}
 use Rattle.wire.specs.declared.ValueFound.{ValueFound}
-use Rattle.field.proofs.Dispatch.{number, payload, four, eight, of-wire}
+use Rattle.field.proofs.Dispatch.{ByKind, number, payload, four, eight, of-wire}
 use borrow.Author.Needs.{needs}
 use Rattle.field.proofs.next_field.Statement.{statement}
 use Rattle.field.proofs.next_field.Tie as tie
@@ -50,24 +50,23 @@ enum-known-value-2 c = search needs
 before : (c : tie.Else2) → let a = c .before .before .before .args in a .from < a .end
 before c = let n = c .before .if1 .left in omega arith
 
+-- the four ways to the value meet
+met : (c : tie.Joined3) → let a = c .before .before .before .before .before .before .before .before .before .args in
+    ByKind (a .s .now) (a .end) (c .before .before .before .key .given .0 .1 .0) (c .before .wire-number .result) (c .if3 .value)
+met c =
+    ⊎-elim (λ w. number (w .1 .taken) (w .3 ∙ w .2 .ensures))
+    (⊎-elim (λ w. payload (w .0 .taken) (w .1 .left) (w .3 ∙ w .2 .ensures))
+    (⊎-elim (λ w. four (w .1 .taken) (w .3 ∙ w .2 .ensures)) (λ w. eight (w .0 .left) (w .1 .left) (w .3 ∙ w .2 .ensures))))
+    (c .if3 .came)
+
 -- the step is the value under its tag
 valued : (c : tie.Joined3) → let a = c .before .before .before .before .before .before .before .before .before .args in
     stepAt (a .s .now) (a .end) (a .from) (a .last) ≡ stepOf (tagged (c .before .before .before .key .given .0 .0 .tag) (c .if3 .value))
 valued c =
-    let n = c .before in
-    let k = n .before .before in
-    let g = k .key .given in
-    let b = k .before .before .before in
-    let a = b .before .before .before .args in
-    let found =
-    of-wire (a .s .now) (a .end) (g .0 .1 .0) (n .wire-number .result) (g .0 .0 .wire) (c .if3 .value) (n .wire-number .ensures)
-    (⊎-elim (λ w. number (w .1 .taken) (w .3 ∙ w .2 .ensures))
-    (⊎-elim (λ w. payload (w .0 .taken) (w .1 .left) (w .3 ∙ w .2 .ensures))
-    (⊎-elim (λ w. four (w .1 .taken) (w .3 ∙ w .2 .ensures)) (λ w. eight (w .0 .left) (w .1 .left) (w .3 ∙ w .2 .ensures))))
-    (c .if3 .came)) in
-    step-before _ _ _ _ (before b)
-    ∙ ap stepOf (field-keyed _ _ _ _ (sym (k .before .before .decode-key .ensures) ∙ g .1))
-    ∙ ap (λ (r : ValueFound). stepOf (tagged (g .0 .0 .tag) r)) (sym found)
+    let k = c .before .before .before in
+    step-before _ _ _ _ (before (k .before .before .before))
+    ∙ ap stepOf (field-keyed _ _ _ _ (sym (k .before .before .decode-key .ensures) ∙ k .key .given .1))
+    ∙ ap (λ (r : ValueFound). stepOf (tagged (k .key .given .0 .0 .tag) r)) (sym (of-wire _ _ _ _ (k .key .given .0 .0 .wire) _ (c .before .wire-number .ensures) (met c)))
 
 returns-3 : tie.Need-returns-3
 returns-3 c =
