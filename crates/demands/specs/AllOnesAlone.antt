@@ -20,6 +20,7 @@ use Rattle.wire.specs.Choose.{choose}
 use Rattle.wire.specs.declared.Refusal.the-variants.{NoRoom}
 use Rattle.sounding.specs.Words.{levelRoom, Outcome, stored, readSounding}
 use Rattle.wire.specs.Numbers.{numberOf}
+use Rattle.sounding.specs.Layout.{levelTag}
 use Rattle.sounding.specs.AllOnes.{calmFields, calm, calmInside, verdict, all-ones-alone}
 use Rattle.sounding.specs.Promises.{each-all}
 use Rattle.sounding.specs.Told as soundings
@@ -40,15 +41,15 @@ numberFor t inside m = soundingTold (stored t (judge inside m) .answer) .number
 -- ---- the levels are as many
 
 levelsSent : Message → ℕ
-levelsSent (Fields fs) = length (ofTag 3 fs)
+levelsSent (Fields fs) = length (ofTag levelTag fs)
 levelsSent (reading.Refused r p) = 0
 
-calm-length : (fs : List Field) → length (ofTag 3 (calmFields fs)) ≡ length (ofTag 3 fs)
+calm-length : (fs : List Field) → length (ofTag levelTag (calmFields fs)) ≡ length (ofTag levelTag fs)
 calm-length [] = refl
-calm-length (f ∷ fs) = go (eqb (f .tag) 3) refl (calm-length fs)
+calm-length (f ∷ fs) = go (eqb (f .tag) levelTag) refl (calm-length fs)
   where
-    go : (b : Bool) → eqb (f .tag) 3 ≡ b → length (ofTag 3 (calmFields fs)) ≡ length (ofTag 3 fs)
-        → length (ofTag 3 (calmFields (f ∷ fs))) ≡ length (ofTag 3 (f ∷ fs))
+    go : (b : Bool) → eqb (f .tag) levelTag ≡ b → length (ofTag levelTag (calmFields fs)) ≡ length (ofTag levelTag fs)
+        → length (ofTag levelTag (calmFields (f ∷ fs))) ≡ length (ofTag levelTag (f ∷ fs))
     go true b ih = simp (b, ih)
     go false b ih = simp (b, ih)
 
@@ -68,7 +69,8 @@ judged-levels (numberFound.Got s) (numberFound.Got l) (All ls) r e =
 good-levels : (inside : ℕ → ℕ → Message) (m : Message) (r : Report) → judge inside m ≡ Good r → length (r .levels) ≡ levelsSent m
 unfolding judge head levels levelsSent
 good-levels inside (Fields fs) r e =
-    each-all inside (record { tag = 3; value = Varint 0 }) (record { pressure = 0; temperature = Missing; depression = Missing }) (ofTag 3 fs) (r .levels)
+    each-all inside (record { tag = levelTag; value = Varint 0 }) (record { pressure = 0; temperature = Missing; depression = Missing })
+    (ofTag levelTag fs) (r .levels)
     (judged-levels (station (Fields fs)) (launch (Fields fs)) (levels inside (Fields fs)) r e) .0
 good-levels inside (reading.Refused q p) r e =
     let m = reading.Refused q p in
