@@ -1,0 +1,82 @@
+-- `stream::open_all` is safe and ends.
+use Prim.Native.Nat.{_-_}
+use borrow.Author.Needs.{needs}
+use Rattle.stream.proofs.open_all.Statement.{statement}
+use Rattle.stream.proofs.open_all.Tie as tie
+
+abbrev Inv-loop : tie.InvT-loop
+Inv-loop program files count o₀ i₀ o i = Unit {0}
+
+abbrev μ-loop : tie.MeasureT-loop
+μ-loop program files count o₀ i₀ o i = count - i
+
+arg-count-requires : tie.Need-arg-count-requires Inv-loop μ-loop
+arg-count-requires c κs = search needs
+
+no-orders-requires : tie.Need-no-orders-requires Inv-loop μ-loop
+no-orders-requires c κs = search needs
+
+loop-holds : tie.Need-loop-holds Inv-loop μ-loop
+loop-holds c = search needs
+
+argument-at-requires : tie.Need-argument-at-requires Inv-loop μ-loop
+argument-at-requires c κs = search needs
+
+is-unknown-requires : tie.Need-is-unknown-requires Inv-loop μ-loop
+is-unknown-requires c κs = search needs
+
+refuse-option-requires : tie.Need-refuse-option-requires Inv-loop μ-loop
+refuse-option-requires c κs = search needs
+
+returns : tie.Need-returns Inv-loop μ-loop
+returns c = search needs
+
+ordered-requires : tie.Need-ordered-requires Inv-loop μ-loop
+ordered-requires c κs = search needs
+
+add-i : tie.Need-add-i Inv-loop μ-loop
+add-i c = search needs
+
+loop-less : tie.Need-loop-less Inv-loop μ-loop
+loop-less c = search needs
+
+loop-again : tie.Need-loop-again Inv-loop μ-loop
+loop-again c = search needs
+
+refuse-number-requires : tie.Need-refuse-number-requires Inv-loop μ-loop
+refuse-number-requires c κs = search needs
+
+returns-2 : tie.Need-returns-2 Inv-loop μ-loop
+returns-2 c = search needs
+
+open-files-requires : tie.Need-open-files-requires Inv-loop μ-loop
+open-files-requires c κs = search needs
+
+same-length : tie.Need-same-length Inv-loop μ-loop
+same-length c = search needs
+
+returns-3 : tie.Need-returns-3 Inv-loop μ-loop
+returns-3 c = search needs
+
+pub open-all-spec : {M : Type 1} → statement M
+open-all-spec =
+    tie.close
+    (tie.spec
+    Inv-loop
+    μ-loop
+    arg-count-requires
+    no-orders-requires
+    loop-holds
+    argument-at-requires
+    is-unknown-requires
+    refuse-option-requires
+    returns
+    ordered-requires
+    add-i
+    loop-less
+    loop-again
+    refuse-number-requires
+    returns-2
+    open-files-requires
+    same-length
+    returns-3)

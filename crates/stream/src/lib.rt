@@ -1,0 +1,517 @@
+// What the programs share: their arguments, files read in blocks one behind the other, text written out, frames counted, and how a run ended.
+// A call that a signal interrupts is made again, and a write that takes a part goes on behind it.
+ghost use mathlib.Core.Path.{_≡_};
+ghost use Prim.Native.Nat.{_≤_};
+ghost use lib.ListN.{length};
+ghost use Rattle.stream.specs.Arguments.{alike, dashed, optionOf, argumentOf, orderedBy};
+ghost use Rattle.stream.specs.Counting.{counted};
+
+// What an argument is: a file's name; the standard input; an option; that all that follow are names; none of these.
+pub enum Argument {
+    File,
+    Input,
+    Count,
+    Status,
+    Names,
+    Unknown,
+}
+
+// What the arguments so far ask for: to count, to tell the status; whether a file is named, and whether all that follow are names.
+pub struct Orders {
+    count: bool,
+    status: bool,
+    named: bool,
+    names: bool,
+}
+
+// What was read: bytes; a file's end; the end of the last file; a failure, which was said.
+pub enum Got {
+    Bytes,
+    FileEnd,
+    End,
+    Failed,
+}
+
+// Where reading stands: the argument whose file is read next, and what was read last.
+pub struct Source {
+    file: usize,
+    n: usize,
+    got: Got,
+}
+
+// What to do, once all files are open; whether they are.
+pub struct Start {
+    ready: bool,
+    count: bool,
+    status: bool,
+}
+
+// The most arguments, the program's name among them.
+pub const ARGUMENTS: usize = 4_096;
+
+// The verdicts that are counted: 0 is an accepted frame, then come the numbers of refusals, then lines that are no frames.
+pub const VERDICTS: usize = 16;
+
+pub const LONG: usize = 14;
+
+pub const HEX: usize = 15;
+
+// The descriptor that a status is told to.
+const STATUS_FILENO: i32 = 3;
+
+// The longest name of a file, and with it the longest name of what failed.
+const NAME: usize = 4_096;
+
+const LABEL: usize = 4_224;
+
+// ---- arguments
+
+fn is_dashed(word: &[u8]) -> bool
+    ensures { λ r. ⌜ r ≡ dashed (now (word .entry)) ⌝ }
+{
+    if word.len() < 1 {
+        return false;
+    }
+    word[0] == b'-'
+}
+
+fn is_word(word: &[u8], other: &[u8]) -> bool
+    ensures { λ r. ⌜ r ≡ alike (now (word .entry)) (now (other .entry)) ⌝ }
+{
+    check::same(word, other)
+}
+
+fn option_of(word: &[u8]) -> Argument
+    ensures { λ r. ⌜ r ≡ optionOf (now (word .entry)) ⌝ }
+{
+    if is_word(word, b"--count") {
+        return Argument::Count;
+    }
+    if is_word(word, b"--status") {
+        return Argument::Status;
+    }
+    if is_word(word, b"--") {
+        return Argument::Names;
+    }
+    Argument::Unknown
+}
+
+// What a word is among the arguments; behind `--` all are names, but for `-`.
+pub fn argument_of(word: &[u8], names: bool) -> Argument
+    ensures { λ r. ⌜ r ≡ argumentOf (now (word .entry)) names ⌝ }
+{
+    if is_word(word, b"-") {
+        return Argument::Input;
+    }
+    if names {
+        return Argument::File;
+    }
+    if is_dashed(word) {
+        return option_of(word);
+    }
+    Argument::File
+}
+
+// What the arguments ask for with one more.
+pub fn ordered(o: Orders, a: Argument) -> Orders
+    ensures { λ r. ⌜ r ≡ orderedBy o a ⌝ }
+{
+    let mut r = o;
+    match a {
+        Argument::File => {
+            r.named = true;
+        }
+        Argument::Input => {
+            r.named = true;
+        }
+        Argument::Count => {
+            r.count = true;
+        }
+        Argument::Status => {
+            r.status = true;
+        }
+        Argument::Names => {
+            r.names = true;
+        }
+        Argument::Unknown => {}
+    }
+    r
+}
+
+fn argument_at(i: usize, names: bool) -> Argument {
+    let mut word = [0u8; NAME];
+    let n = os::arg(i, &mut word);
+    if os::errno() != 0 {
+        return Argument::File;
+    }
+    argument_of(&word[0..n], names)
+}
+
+// ---- what is said
+
+// What failed: the program's name, and the name of a file or of a standard stream. It is put before the call that may fail, since asking
+// for an argument changes the reason.
+fn put_label(label: &mut [u8], program: &[u8], i: usize, fd: i32) -> usize {
+    let p = place::put_part(label, 0, program, 0, program.len());
+    let q = place::put_part(label, p, b": ", 0, 2);
+    if fd == libc::STDIN_FILENO {
+        return place::put_part(label, q, b"standard input", 0, 14);
+    }
+    if fd == libc::STDOUT_FILENO {
+        return place::put_part(label, q, b"standard output", 0, 15);
+    }
+    if label.len() < q {
+        return q;
+    }
+    let n = os::arg(i, &mut label[q..]);
+    if os::errno() != 0 {
+        return place::put_part(label, q, b"an argument", 0, 11);
+    }
+    if label.len() - q < n {
+        return q;
+    }
+    q + n
+}
+
+// Says what failed, and the system's reason.
+fn say_failed(label: &[u8], n: usize) {
+    if label.len() < n {
+        return;
+    }
+    os::fail(&label[0..n]);
+}
+
+fn say(text: &[u8]) {
+    write_all(libc::STDERR_FILENO, text);
+}
+
+// Tells the exit status to whoever holds the descriptor for it, where the arguments asked for that.
+fn tell(status: bool, digit: &[u8]) {
+    if status {
+        write_all(STATUS_FILENO, digit);
+    }
+}
+
+// ---- reading
+
+// One read, made again where it was interrupted.
+pub fn read_block(fd: i32, block: &mut [u8]) -> isize {
+    let mut turns = u64::MAX;
+    while 0 < turns {
+        turns -= 1;
+        let got = libc::read(fd, block);
+        if 0 <= got {
+            return got;
+        }
+        if os::errno() != libc::EINTR {
+            return got;
+        }
+    }
+    -1
+}
+
+fn read_named(program: &[u8], i: usize, fd: i32, block: &mut [u8]) -> isize {
+    let mut label = [0u8; LABEL];
+    let n = put_label(&mut label, program, i, fd);
+    let got = read_block(fd, block);
+    if got < 0 {
+        say_failed(&label, n);
+    }
+    got
+}
+
+// The first argument from one on that has a descriptor; as many as there are where none has.
+fn next_file(files: &[i32], from: usize) -> usize {
+    let mut i = from;
+    while i < files.len() {
+        if 0 <= files[i] {
+            return i;
+        }
+        i += 1;
+    }
+    files.len()
+}
+
+pub fn from_the_first() -> Source
+    ensures { λ r. ⌜ r .n ≡ 0 ⌝ }
+{
+    Source {
+        file: 0,
+        n: 0,
+        got: Got::Bytes,
+    }
+}
+
+// The next block: the bytes that one read of the present file brings, or that it is at its end.
+pub fn next_block(program: &[u8], files: &[i32], block: &mut [u8], s: Source) -> Source
+    ensures { λ r. ⌜ r .n ≤ length (now (block .exit)) ⌝ }
+{
+    let i = next_file(files, s.file);
+    if files.len() <= i {
+        return Source {
+            file: i,
+            n: 0,
+            got: Got::End,
+        };
+    }
+    let fd = files[i];
+    let got = read_named(program, i, fd, block);
+    if got < 0 {
+        return Source {
+            file: i,
+            n: 0,
+            got: Got::Failed,
+        };
+    }
+    if got < 1 {
+        libc::close(fd);
+        return Source {
+            file: i + 1,
+            n: 0,
+            got: Got::FileEnd,
+        };
+    }
+    Source {
+        file: i,
+        n: io::count(got, block),
+        got: Got::Bytes,
+    }
+}
+
+// ---- writing
+
+// Writes all of a text; false where a write took nothing or failed.
+pub fn write_all(fd: i32, text: &[u8]) -> bool {
+    let mut at = 0;
+    let mut turns = u64::MAX;
+    while at < text.len() {
+        if turns < 1 {
+            return false;
+        }
+        turns -= 1;
+        let rest = &text[at..];
+        let put = libc::write(fd, rest);
+        if put < 1 {
+            if os::errno() != libc::EINTR {
+                return false;
+            }
+        }
+        at += io::count(put, rest);
+    }
+    true
+}
+
+// Writes text to the standard output. A failure is said, but for a pipe that nobody reads any more.
+pub fn write_out(program: &[u8], text: &[u8]) -> bool {
+    if write_all(libc::STDOUT_FILENO, text) {
+        return true;
+    }
+    if os::errno() != libc::EPIPE {
+        fail_output(program);
+    }
+    false
+}
+
+// Says that the standard output failed. No argument is asked for, so the reason stays.
+fn fail_output(program: &[u8]) {
+    let mut label = [0u8; LABEL];
+    let n = put_label(&mut label, program, 0, libc::STDOUT_FILENO);
+    say_failed(&label, n);
+}
+
+// ---- a run
+
+// A descriptor for each argument; where there is none, -1.
+pub fn no_files() -> [i32; ARGUMENTS]
+    ensures { λ r. ⌜ 4096 ≡ length r ⌝ }
+{
+    [-1; ARGUMENTS]
+}
+
+fn not_ready() -> Start {
+    Start {
+        ready: false,
+        count: false,
+        status: false,
+    }
+}
+
+fn refuse_option(program: &[u8], i: usize, status: bool) -> Start {
+    let mut word = [0u8; NAME];
+    let n = os::arg(i, &mut word);
+    say(program);
+    say(b": there is no option ");
+    say(&word[0..n]);
+    say(b"\nusage: ");
+    say(program);
+    say(b" [--count] [FILE..]\n");
+    tell(status, b"2");
+    not_ready()
+}
+
+fn refuse_number(program: &[u8]) -> Start {
+    say(program);
+    say(b": there are too many arguments\n");
+    not_ready()
+}
+
+fn open_named(program: &[u8], i: usize) -> i32 {
+    let mut label = [0u8; LABEL];
+    let mut word = [0u8; NAME];
+    let m = put_label(&mut label, program, i, -1);
+    let n = os::arg(i, &mut word);
+    if os::errno() != 0 {
+        say_failed(&label, m);
+        return -1;
+    }
+    let fd = os::open_read(&word[0..n]);
+    if fd < 0 {
+        say_failed(&label, m);
+    }
+    fd
+}
+
+// The descriptor for an argument: that of its file, that of the standard input, or none; and whether a file could not be opened.
+fn descriptor_for(program: &[u8], i: usize, a: Argument) -> i32 {
+    match a {
+        Argument::File => open_named(program, i),
+        Argument::Input => libc::STDIN_FILENO,
+        _ => -1,
+    }
+}
+
+fn is_file(a: Argument) -> bool {
+    match a {
+        Argument::File => true,
+        _ => false,
+    }
+}
+
+// Opens every file that the arguments name; false at the first that cannot be opened.
+fn open_files(program: &[u8], files: &mut [i32], count: usize) -> bool {
+    let mut o = no_orders();
+    let mut i = 1;
+    while i < count {
+        if files.len() <= i {
+            return false;
+        }
+        let a = argument_at(i, o.names);
+        let fd = descriptor_for(program, i, a);
+        if fd < 0 {
+            if is_file(a) {
+                return false;
+            }
+        }
+        files[i] = fd;
+        o = ordered(o, a);
+        i += 1;
+    }
+    if !o.named {
+        return use_input(files);
+    }
+    true
+}
+
+// Without a file the standard input is read, in the place of the program's name.
+fn use_input(files: &mut [i32]) -> bool {
+    if files.len() < 1 {
+        return false;
+    }
+    files[0] = libc::STDIN_FILENO;
+    true
+}
+
+fn no_orders() -> Orders {
+    Orders {
+        count: false,
+        status: false,
+        named: false,
+        names: false,
+    }
+}
+
+fn is_unknown(a: Argument) -> bool {
+    match a {
+        Argument::Unknown => true,
+        _ => false,
+    }
+}
+
+// Reads the arguments, opens all files, and says why there is nothing to do where that fails.
+pub fn open_all(program: &[u8], files: &mut [i32]) -> Start {
+    let count = os::arg_count();
+    let mut o = no_orders();
+    let mut i = 1;
+    while i < count {
+        let a = argument_at(i, o.names);
+        if is_unknown(a) {
+            return refuse_option(program, i, o.status);
+        }
+        o = ordered(o, a);
+        i += 1;
+    }
+    if files.len() < count {
+        return refuse_number(program);
+    }
+    Start {
+        ready: open_files(program, files, count),
+        count: o.count,
+        status: o.status,
+    }
+}
+
+// Ends a run in which all was read and written: the output is closed, and the status told.
+pub fn finish(program: &[u8], s: Start) {
+    if libc::close(libc::STDOUT_FILENO) < 0 {
+        fail_output(program);
+        return;
+    }
+    tell(s.status, b"0");
+}
+
+// ---- counting
+
+// One more frame of a verdict.
+pub fn count_one(tally: &mut [usize], verdict: usize)
+    ensures { λ r. ⌜ now (tally .exit) ≡ counted (now (tally .entry)) verdict ⌝ }
+{
+    if verdict < tally.len() {
+        tally[verdict] = text_lines::more(tally[verdict]);
+    }
+}
+
+fn say_count(n: usize, what: &[u8]) {
+    io::print_decimal(libc::STDERR_FILENO, n as u64);
+    say(what);
+}
+
+// Says how many frames were read, and how many of each verdict there were.
+pub fn say_counts(frames: usize, tally: &[usize]) {
+    say_count(frames, b" frames\n");
+    let mut v = 0;
+    while v < tally.len() {
+        say_verdict(v, tally[v]);
+        v += 1;
+    }
+}
+
+// A line in the words of the dump.
+fn say_verdict(v: usize, n: usize) {
+    if v < 1 {
+        say_count(n, b" OK\n");
+        return;
+    }
+    if n < 1 {
+        return;
+    }
+    if v == LONG {
+        say_count(n, b" LONG\n");
+        return;
+    }
+    if v == HEX {
+        say_count(n, b" HEX\n");
+        return;
+    }
+    say_count(n, b" NO ");
+    say_count(v, b"\n");
+}
