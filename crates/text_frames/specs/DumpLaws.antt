@@ -10,7 +10,7 @@ use Rattle.text_lines.specs.Lines.{more, linesOf, Taking, takeLine}
 use Rattle.text_lines.specs.LineLaws.{Whole, whole, ended, begun, lines-whole, lines-ended, lines-last, Keeps, keeps-none, whole-keeps, ended-keeps}
 use Rattle.text_lines.specs.declared.Taken.the-variants.{Line, Part}
 use Rattle.text_frames.specs.Text.{printed}
-use Rattle.text_frames.specs.Dump.{printedFrom, dumped}
+use Rattle.text_frames.specs.Dump.{printedFrom, numberAfter, dumpedFrom, dumped}
 use Rattle.text_frames.specs.Print.{frameRoom, Printing, printFrame}
 use Rattle.text_frames.specs.PrintLaws.{line-printed}
 
@@ -19,6 +19,7 @@ use Rattle.text_frames.specs.PrintLaws.{line-printed}
 -- at line n, of which the characters ks are read, with this rest of a block: the text is printed, and then all else from the later place
 pub record Prints (n : ℕ) (ks rest text : List ℕ) (n′ : ℕ) (ks′ rest′ : List ℕ) : Type 0 where
   pub same : (later : List ℕ) → printedFrom n (begun ks (linesOf (rest ++ later))) ≡ text ++ printedFrom n′ (begun ks′ (linesOf (rest′ ++ later)))
+  pub counts : (later : List ℕ) → numberAfter n (begun ks (linesOf (rest ++ later))) ≡ numberAfter n′ (begun ks′ (linesOf (rest′ ++ later)))
 
 pub prints-then : {n : ℕ} {ks rest text : List ℕ} {n′ : ℕ} {ks′ rest′ text′ : List ℕ} {n″ : ℕ} {ks″ rest″ : List ℕ}
     → Prints n ks rest text n′ ks′ rest′ → Prints n′ ks′ rest′ text′ n″ ks″ rest″ → Prints n ks rest (text ++ text′) n″ ks″ rest″
@@ -27,6 +28,7 @@ prints-then {text = text} {text′ = text′} {n″ = n″} {ks″ = ks″} {res
       same = λ later. p .same later
           ∙ ap (λ (l : List ℕ). text ++ l) (q .same later)
           ∙ sym (append-assoc text text′ (printedFrom n″ (begun ks″ (linesOf (rest″ ++ later)))));
+      counts = λ later. p .counts later ∙ q .counts later;
     }
 
 -- ---- a block's lines put into a buffer
@@ -49,7 +51,7 @@ pub record Filled (block out₀ : List ℕ) (used₀ n₀ : ℕ) (ks₀ rest₀ 
 
 pub fill-start : (block : List ℕ) {line : List ℕ} {chars : ℕ} (n at : ℕ) (out : List ℕ) (used : ℕ) {ks : List ℕ} → Keeps line chars ks
     → Filled block out used n ks (drop at block) line chars n at out used
-fill-start block n at out used {ks} w = record { text = []; ks = ks; keeps = w; place = omega arith; put = refl; prints = record { same = λ later. refl } }
+fill-start block n at out used {ks} w = record { text = []; ks = ks; keeps = w; place = omega arith; put = refl; prints = record { same = λ later. refl; counts = λ later. refl } }
 
 -- what follows a line in its block
 after-line : (block : List ℕ) (at : ℕ) {line : List ℕ} {chars next k : ℕ} {line′ : List ℕ} (w : Whole (drop at block) at line chars next k line′) → drop next block ≡ w .tail
@@ -81,7 +83,11 @@ module _ {block out₀ : List ℕ} {used₀ n₀ : ℕ} {ks₀ rest₀ line : Li
         keeps = keeps-none line′ (omega arith);
         place = omega (arith, f .place, length-append (f .text) t);
         put = o ∙ s;
-        prints = prints-then (f .prints) (record { same = λ later. ap (printedFrom n) (lines-whole x (f .ks) later) ∙ rw (after-line block at x) });
+        prints = prints-then (f .prints)
+        (record {
+          same = λ later. ap (printedFrom n) (lines-whole x (f .ks) later) ∙ rw (after-line block at x);
+          counts = λ later. ap (numberAfter n) (lines-whole x (f .ks) later) ∙ rw (after-line block at x);
+        });
       }
 
   -- the block ends in a part of a line
@@ -99,6 +105,7 @@ module _ {block out₀ : List ℕ} {used₀ n₀ : ℕ} {ks₀ rest₀ line : Li
           same = λ later. f .prints .same later
               ∙ ap (λ (ls : List (List ℕ)). f .text ++ printedFrom n ls) (lines-ended x (f .ks) later)
               ∙ rw (drop-of-length-le block {i = length block} (omega arith));
+          counts = λ later. f .prints .counts later ∙ ap (numberAfter n) (lines-ended x (f .ks) later) ∙ rw (drop-of-length-le block {i = length block} (omega arith));
         };
       }
 
@@ -108,23 +115,39 @@ abbrev pub joined : List (List ℕ) → List ℕ
 joined [] = []
 joined (b ∷ bs) = b ++ joined bs
 
--- the texts that are written from a place of a block on, with the blocks that are read later: a block is printed as far as there is room,
--- the next is read where it is at its end, and the last line is printed if it has a character
-pub data Dumps : ℕ → List ℕ → List ℕ → List (List ℕ) → List ℕ → Type 0 where
-  goesOn : {n : ℕ} {ks rest text : List ℕ} {n′ : ℕ} {ks′ rest′ : List ℕ} {later : List (List ℕ)} {texts : List ℕ}
-      → Prints n ks rest text n′ ks′ rest′ → Dumps n′ ks′ rest′ later texts → Dumps n ks rest later (text ++ texts)
-  nextBlock : {n : ℕ} {ks b : List ℕ} {later : List (List ℕ)} {texts : List ℕ} → Dumps n ks b later texts → Dumps n ks [] (b ∷ later) texts
-  lastLine : {n : ℕ} {ks : List ℕ} → 1 ≤ length ks → Dumps n ks [] [] (printed n ks)
-  theEnd : {n : ℕ} → Dumps n [] [] [] []
+abbrev pub joinedAll : List (List (List ℕ)) → List (List ℕ)
+joinedAll [] = []
+joinedAll (f ∷ fs) = joined f ∷ joinedAll fs
 
-dumps-from : {n : ℕ} {ks rest : List ℕ} {later : List (List ℕ)} {texts : List ℕ} → Dumps n ks rest later texts
-    → texts ≡ printedFrom n (begun ks (linesOf (rest ++ joined later)))
-dumps-from (goesOn {text = text} {later = later} p d) = ap (λ (l : List ℕ). text ++ l) (dumps-from d) ∙ sym (p .same (joined later))
+-- the texts that are written from a place of a block on, with the blocks of this file and the files that are read later: a block is printed as
+-- far as there is room, the next is read where it is at its end, and at a file's end its last line is printed if it has a character
+pub data Dumps : ℕ → List ℕ → List ℕ → List (List ℕ) → List (List (List ℕ)) → List ℕ → Type 0 where
+  goesOn : {n : ℕ} {ks rest text : List ℕ} {n′ : ℕ} {ks′ rest′ : List ℕ} {later : List (List ℕ)} {files : List (List (List ℕ))} {texts : List ℕ}
+      → Prints n ks rest text n′ ks′ rest′ → Dumps n′ ks′ rest′ later files texts → Dumps n ks rest later files (text ++ texts)
+  nextBlock : {n : ℕ} {ks b : List ℕ} {later : List (List ℕ)} {files : List (List (List ℕ))} {texts : List ℕ}
+      → Dumps n ks b later files texts → Dumps n ks [] (b ∷ later) files texts
+  lastLine : {n : ℕ} {ks : List ℕ} {files : List (List (List ℕ))} {texts : List ℕ} → 1 ≤ length ks
+      → Dumps (more n) [] [] [] files texts → Dumps n ks [] [] files (printed n ks ++ texts)
+  nextFile : {n : ℕ} {file : List (List ℕ)} {files : List (List (List ℕ))} {texts : List ℕ} → Dumps n [] [] file files texts → Dumps n [] [] [] (file ∷ files) texts
+  theEnd : {n : ℕ} → Dumps n [] [] [] [] []
+
+-- what the lines that are left of this file print, and then the other files
+abbrev pub printedThen : ℕ → List (List ℕ) → List (List ℕ) → List ℕ
+printedThen n ls files = printedFrom n ls ++ dumpedFrom (numberAfter n ls) files
+
+dumps-from : {n : ℕ} {ks rest : List ℕ} {later : List (List ℕ)} {files : List (List (List ℕ))} {texts : List ℕ} → Dumps n ks rest later files texts
+    → texts ≡ printedThen n (begun ks (linesOf (rest ++ joined later))) (joinedAll files)
+dumps-from (goesOn {text = text} {n′ = n′} {ks′ = ks′} {rest′ = rest′} {later = later} {files = files} p d) =
+    let ls = begun ks′ (linesOf (rest′ ++ joined later)) in
+    ap (λ (l : List ℕ). text ++ l) (dumps-from d)
+    ∙ sym (append-assoc text (printedFrom n′ ls) (dumpedFrom (numberAfter n′ ls) (joinedAll files)))
+    ∙ rw (p .same (joined later), p .counts (joined later))
 dumps-from (nextBlock d) = dumps-from d
-dumps-from (lastLine {n} {ks} h) = rw (lines-last ks h) (sym (append-nil (printed n ks)))
+dumps-from (lastLine {n} {ks} h d) = rw (lines-last ks h, append-nil (printed n ks)) (ap (λ (l : List ℕ). printed n ks ++ l) (dumps-from d))
+dumps-from (nextFile d) = dumps-from d
 dumps-from theEnd = refl
 
--- however the input is cut into blocks, and wherever the buffer is written out
-pub dump-all : {block : List ℕ} {later : List (List ℕ)} {texts : List ℕ} → Dumps 1 [] block later texts → texts ≡ dumped (block ++ joined later)
+-- however the files are cut into blocks, and wherever the buffer is written out
+pub dump-all : {files : List (List (List ℕ))} {texts : List ℕ} → Dumps 1 [] [] [] files texts → texts ≡ dumped (joinedAll files)
 unfolding dumped
 dump-all d = dumps-from d
