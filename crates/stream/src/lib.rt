@@ -1,28 +1,9 @@
-// What the programs share: their arguments, files read in blocks one behind the other, text written out, frames counted, and how a run ended.
+// What the programs share: files read in blocks one behind the other, text written out, counts said, and how a run ended.
 // A call that a signal interrupts is made again, and a write that takes a part goes on behind it.
 ghost use mathlib.Core.Path.{_≡_};
 ghost use Prim.Native.Nat.{_≤_};
 ghost use lib.ListN.{length};
-ghost use Rattle.stream.specs.Arguments.{alike, dashed, optionOf, argumentOf, orderedBy};
-ghost use Rattle.stream.specs.Counting.{counted};
-
-// What an argument is: a file's name; the standard input; an option; that all that follow are names; none of these.
-pub enum Argument {
-    File,
-    Input,
-    Count,
-    Status,
-    Names,
-    Unknown,
-}
-
-// What the arguments so far ask for: to count, to tell the status; whether a file is named, and whether all that follow are names.
-pub struct Orders {
-    count: bool,
-    status: bool,
-    named: bool,
-    names: bool,
-}
+use stream_orders::Argument;
 
 // What was read: bytes; a file's end; the end of the last file; a failure, which was said.
 pub enum Got {
@@ -34,27 +15,20 @@ pub enum Got {
 
 // Where reading stands: the argument whose file is read next, and what was read last.
 pub struct Source {
-    file: usize,
-    n: usize,
-    got: Got,
+    pub file: usize,
+    pub n: usize,
+    pub got: Got,
 }
 
 // What to do, once all files are open; whether they are.
 pub struct Start {
-    ready: bool,
-    count: bool,
-    status: bool,
+    pub ready: bool,
+    pub count: bool,
+    pub status: bool,
 }
 
 // The most arguments, the program's name among them.
 pub const ARGUMENTS: usize = 4_096;
-
-// The verdicts that are counted: 0 is an accepted frame, then come the numbers of refusals, then lines that are no frames.
-pub const VERDICTS: usize = 16;
-
-pub const LONG: usize = 14;
-
-pub const HEX: usize = 15;
 
 // The descriptor that a status is told to.
 const STATUS_FILENO: i32 = 3;
@@ -66,85 +40,13 @@ const LABEL: usize = 4_224;
 
 // ---- arguments
 
-fn is_dashed(word: &[u8]) -> bool
-    ensures { λ r. ⌜ r ≡ dashed (now (word .entry)) ⌝ }
-{
-    if word.len() < 1 {
-        return false;
-    }
-    word[0] == b'-'
-}
-
-fn is_word(word: &[u8], other: &[u8]) -> bool
-    ensures { λ r. ⌜ r ≡ alike (now (word .entry)) (now (other .entry)) ⌝ }
-{
-    check::same(word, other)
-}
-
-fn option_of(word: &[u8]) -> Argument
-    ensures { λ r. ⌜ r ≡ optionOf (now (word .entry)) ⌝ }
-{
-    if is_word(word, b"--count") {
-        return Argument::Count;
-    }
-    if is_word(word, b"--status") {
-        return Argument::Status;
-    }
-    if is_word(word, b"--") {
-        return Argument::Names;
-    }
-    Argument::Unknown
-}
-
-// What a word is among the arguments; behind `--` all are names, but for `-`.
-pub fn argument_of(word: &[u8], names: bool) -> Argument
-    ensures { λ r. ⌜ r ≡ argumentOf (now (word .entry)) names ⌝ }
-{
-    if is_word(word, b"-") {
-        return Argument::Input;
-    }
-    if names {
-        return Argument::File;
-    }
-    if is_dashed(word) {
-        return option_of(word);
-    }
-    Argument::File
-}
-
-// What the arguments ask for with one more.
-pub fn ordered(o: Orders, a: Argument) -> Orders
-    ensures { λ r. ⌜ r ≡ orderedBy o a ⌝ }
-{
-    let mut r = o;
-    match a {
-        Argument::File => {
-            r.named = true;
-        }
-        Argument::Input => {
-            r.named = true;
-        }
-        Argument::Count => {
-            r.count = true;
-        }
-        Argument::Status => {
-            r.status = true;
-        }
-        Argument::Names => {
-            r.names = true;
-        }
-        Argument::Unknown => {}
-    }
-    r
-}
-
 fn argument_at(i: usize, names: bool) -> Argument {
     let mut word = [0u8; NAME];
     let n = os::arg(i, &mut word);
     if os::errno() != 0 {
         return Argument::File;
     }
-    argument_of(&word[0..n], names)
+    stream_orders::argument_of(&word[0..n], names)
 }
 
 // ---- what is said
@@ -389,7 +291,7 @@ fn is_file(a: Argument) -> bool {
 
 // Opens every file that the arguments name; false at the first that cannot be opened.
 fn open_files(program: &[u8], files: &mut [i32], count: usize) -> bool {
-    let mut o = no_orders();
+    let mut o = stream_orders::no_orders();
     let mut i = 1;
     while i < count {
         if files.len() <= i {
@@ -403,7 +305,7 @@ fn open_files(program: &[u8], files: &mut [i32], count: usize) -> bool {
             }
         }
         files[i] = fd;
-        o = ordered(o, a);
+        o = stream_orders::ordered(o, a);
         i += 1;
     }
     if !o.named {
@@ -421,15 +323,6 @@ fn use_input(files: &mut [i32]) -> bool {
     true
 }
 
-fn no_orders() -> Orders {
-    Orders {
-        count: false,
-        status: false,
-        named: false,
-        names: false,
-    }
-}
-
 fn is_unknown(a: Argument) -> bool {
     match a {
         Argument::Unknown => true,
@@ -440,14 +333,14 @@ fn is_unknown(a: Argument) -> bool {
 // Reads the arguments, opens all files, and says why there is nothing to do where that fails.
 pub fn open_all(program: &[u8], files: &mut [i32]) -> Start {
     let count = os::arg_count();
-    let mut o = no_orders();
+    let mut o = stream_orders::no_orders();
     let mut i = 1;
     while i < count {
         let a = argument_at(i, o.names);
         if is_unknown(a) {
             return refuse_option(program, i, o.status);
         }
-        o = ordered(o, a);
+        o = stream_orders::ordered(o, a);
         i += 1;
     }
     if files.len() < count {
@@ -470,15 +363,6 @@ pub fn finish(program: &[u8], s: Start) {
 }
 
 // ---- counting
-
-// One more frame of a verdict.
-pub fn count_one(tally: &mut [usize], verdict: usize)
-    ensures { λ r. ⌜ now (tally .exit) ≡ counted (now (tally .entry)) verdict ⌝ }
-{
-    if verdict < tally.len() {
-        tally[verdict] = text_lines::more(tally[verdict]);
-    }
-}
 
 fn say_count(n: usize, what: &[u8]) {
     io::print_decimal(libc::STDERR_FILENO, n as u64);
@@ -504,11 +388,11 @@ fn say_verdict(v: usize, n: usize) {
     if n < 1 {
         return;
     }
-    if v == LONG {
+    if v == stream_orders::LONG {
         say_count(n, b" LONG\n");
         return;
     }
-    if v == HEX {
+    if v == stream_orders::HEX {
         say_count(n, b" HEX\n");
         return;
     }

@@ -1,9 +1,9 @@
--- `stream::argument_of` meets its contract.
+-- `stream_orders::argument_of` meets its contract.
 use mathlib.Core.Path.{_∙_}
-use Rattle.stream.specs.Arguments.{word-input, word-name, word-option, word-plain}
+use Rattle.stream_orders.specs.Arguments.{word-input, word-name, word-option, word-plain}
 use borrow.Author.Needs.{needs}
-use Rattle.stream.proofs.argument_of.Statement.{statement}
-use Rattle.stream.proofs.argument_of.Tie as tie
+use Rattle.stream_orders.proofs.argument_of.Statement.{statement}
+use Rattle.stream_orders.proofs.argument_of.Tie as tie
 
 slice-aggregate-is-word : tie.Need-slice-aggregate-is-word
 slice-aggregate-is-word c = search needs

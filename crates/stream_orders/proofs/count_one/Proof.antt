@@ -1,9 +1,9 @@
--- `stream::count_one` meets its contract.
+-- `stream_orders::count_one` meets its contract.
 use native.Mathlib.Omega.{arith}
-use Rattle.stream.specs.Counting.{counted-there, counted-not}
+use Rattle.stream_orders.specs.Counting.{counted-there, counted-not}
 use borrow.Author.Needs.{needs}
-use Rattle.stream.proofs.count_one.Statement.{statement}
-use Rattle.stream.proofs.count_one.Tie as tie
+use Rattle.stream_orders.proofs.count_one.Statement.{statement}
+use Rattle.stream_orders.proofs.count_one.Tie as tie
 
 mul-more : tie.Need-mul-more
 mul-more c = search needs

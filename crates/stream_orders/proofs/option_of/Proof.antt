@@ -1,8 +1,8 @@
--- `stream::option_of` meets its contract.
-use Rattle.stream.specs.Arguments.{option-count, option-status, option-names, option-none}
+-- `stream_orders::option_of` meets its contract.
+use Rattle.stream_orders.specs.Arguments.{option-count, option-status, option-names, option-none}
 use borrow.Author.Needs.{needs}
-use Rattle.stream.proofs.option_of.Statement.{statement}
-use Rattle.stream.proofs.option_of.Tie as tie
+use Rattle.stream_orders.proofs.option_of.Statement.{statement}
+use Rattle.stream_orders.proofs.option_of.Tie as tie
 
 slice-aggregate-is-word : tie.Need-slice-aggregate-is-word
 slice-aggregate-is-word c = search needs

@@ -8,9 +8,9 @@ use lib.Dec.{eqb}
 use lib.ListN.{length, getD}
 use borrow.Author.Tests.{eq-eqb, eqb-true}
 use Rattle.wire.specs.Choose.{choose}
-use Rattle.stream.specs.declared.Argument.{Argument}
-use Rattle.stream.specs.declared.Argument.the-variants.{File, Input, Count, Status, Names, Unknown}
-use Rattle.stream.specs.declared.Orders.{Orders}
+use Rattle.stream_orders.specs.declared.Argument.{Argument}
+use Rattle.stream_orders.specs.declared.Argument.the-variants.{File, Input, Count, Status, Names, Unknown}
+use Rattle.stream_orders.specs.declared.Orders.{Orders}
 
 -- ---- DEFINITIONS
 
@@ -46,6 +46,10 @@ optionOf w = choose (alike w wordCount) Count (choose (alike w wordStatus) Statu
 -- `-` is the standard input; behind `--`, and without `-` in front, a word is a file's name; else an option
 unfoldable pub argumentOf : List ℕ → Bool → Argument
 argumentOf w names = choose (alike w wordInput) Input (choose names File (choose (dashed w) (optionOf w) File))
+
+-- nothing is asked for
+abbrev pub noOrders : Orders
+noOrders = record { count = false; status = false; named = false; names = false }
 
 -- what the arguments ask for with one more
 unfoldable pub orderedBy : Orders → Argument → Orders

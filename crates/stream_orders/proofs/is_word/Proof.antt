@@ -1,9 +1,9 @@
--- `stream::is_word` meets its contract.
+-- `stream_orders::is_word` meets its contract.
 use mathlib.Core.Path.{sym}
-use Rattle.stream.specs.Arguments.{alike-told}
+use Rattle.stream_orders.specs.Arguments.{alike-told}
 use borrow.Author.Needs.{needs}
-use Rattle.stream.proofs.is_word.Statement.{statement}
-use Rattle.stream.proofs.is_word.Tie as tie
+use Rattle.stream_orders.proofs.is_word.Statement.{statement}
+use Rattle.stream_orders.proofs.is_word.Tie as tie
 
 same-requires : tie.Need-same-requires
 same-requires c κs = search needs

@@ -1,8 +1,8 @@
--- `stream::ordered` meets its contract.
-use Rattle.stream.specs.Arguments.{orderedBy}
+-- `stream_orders::ordered` meets its contract.
+use Rattle.stream_orders.specs.Arguments.{orderedBy}
 use borrow.Author.Needs.{needs}
-use Rattle.stream.proofs.ordered.Statement.{statement}
-use Rattle.stream.proofs.ordered.Tie as tie
+use Rattle.stream_orders.proofs.ordered.Statement.{statement}
+use Rattle.stream_orders.proofs.ordered.Tie as tie
 
 enum-told : tie.Need-enum-told
 enum-told c = search needs

@@ -1,9 +1,9 @@
--- `stream::is_dashed` meets its contract.
+-- `stream_orders::is_dashed` meets its contract.
 use native.Mathlib.Omega.{arith}
-use Rattle.stream.specs.Arguments.{dashed-none, dashed-first}
+use Rattle.stream_orders.specs.Arguments.{dashed-none, dashed-first}
 use borrow.Author.Needs.{needs}
-use Rattle.stream.proofs.is_dashed.Statement.{statement}
-use Rattle.stream.proofs.is_dashed.Tie as tie
+use Rattle.stream_orders.proofs.is_dashed.Statement.{statement}
+use Rattle.stream_orders.proofs.is_dashed.Tie as tie
 
 returns : tie.Need-returns
 returns c = dashed-none _ (omega arith)
