@@ -84,10 +84,10 @@ module _ {block out₀ : List ℕ} {used₀ n₀ : ℕ} {ks₀ rest₀ line : Li
         place = omega (arith, f .place, length-append (f .text) t);
         put = o ∙ s;
         prints = prints-then (f .prints)
-        (record {
-          same = λ later. ap (printedFrom n) (lines-whole x (f .ks) later) ∙ rw (after-line block at x);
-          counts = λ later. ap (numberAfter n) (lines-whole x (f .ks) later) ∙ rw (after-line block at x);
-        });
+            (record {
+              same = λ later. ap (printedFrom n) (lines-whole x (f .ks) later) ∙ rw (after-line block at x);
+              counts = λ later. ap (numberAfter n) (lines-whole x (f .ks) later) ∙ rw (after-line block at x);
+            });
       }
 
   -- the block ends in a part of a line
