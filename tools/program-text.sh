@@ -1,0 +1,51 @@
+# Sourced by tools/program.sh: what the programs say of themselves. `root` is the repository's folder.
+
+# The numbers of refusals with their names: the one list is `wire::number_of`, whose numbers are proved.
+refusals() {
+    sed -n '/^pub fn number_of/,/^}/ s/^ *Refusal::\([A-Za-z]*\) => \([0-9]*\),$/\2 \1/p' "$root/crates/wire/src/lib.rt"
+}
+
+what_dump() {
+    cat <<'END'
+Prints the fields of each frame, or why it has none. A line is a frame in hex.
+  frame F tag type value   type: 0 a number, 1 bytes, 2 four bytes, 3 eight
+  frame OK fields bytes    accepted
+  frame NO number place    refused, at this byte
+  frame HEX, frame LONG    not hexadecimal; more than 4096 characters
+Example:
+  $ echo 0401 | dump
+  1 F 1 0 0000000000000001
+  1 OK 1 2
+END
+}
+
+what_soundings() {
+    cat <<'END'
+Prints the levels of each sounding as a table (CSV). A line is a frame in hex.
+A value that is missing is an empty cell.
+Example:
+  $ soundings examples/iced.hex
+  frame,station,launch,level,pressure_pa,temperature_c,dewpoint_depression_c
+  1,10410,1700000060,1,70000,-5.3,1.2
+END
+}
+
+help() {
+    printf 'usage: %s [--count] [FILE..]\n' "$1"
+    "what_$1"
+    cat <<'END'
+Files are read one behind the other; none, or -, is the standard input.
+  --count    says at the end on standard error how many frames there were
+  --version  prints the version and the toolchain;  --help  prints this
+  --         all that follows are names of files
+Refusals:
+END
+    refusals | awk '{ t = $1 " " $2; if (NR > 1) line = line ","; if (length(line) + length(t) > 74) { print "  " line; line = t } else line = line (line == "" ? "" : " ") t } END { print "  " line }'
+    echo 'Exit status: 0 if all was read and written, frames refused or not; 1 if not,'
+    echo 'and standard error says why; 2 for an unknown option.'
+}
+
+version() {
+    printf '%s (capgauze) %s\n' "$1" "$(sed -n 's/^version = "\(.*\)"$/\1/p' "$root/bindings/rust/Cargo.toml")"
+    printf 'toolchain: %s\n' "$(rt version 2>/dev/null || echo none)"
+}

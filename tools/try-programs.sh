@@ -1,0 +1,198 @@
+#!/usr/bin/env bash
+# Runs the programs as a user does, and compares status, output and error of each run with what docs/DECISIONS.md says. By hand: it is no part
+# of the gate. Ends in 'N right, M wrong', with status 1 if one is wrong.
+#
+#   tools/try-programs.sh [NAME..]
+#
+# STREAM_MB (default 32): how many megabytes the long stream has; 1024 is a real one, and takes minutes under an emulator; 0 leaves it out.
+set -u
+root=$(cd "$(dirname "$0")/.." && pwd)
+cd "$root" || exit 1
+room=$(mktemp -d)
+trap 'rm -rf "$room"' EXIT
+right=0 wrong=0
+
+# compares one thing of a run
+is() { # WHAT WANTED GOT
+    if [ "$2" = "$3" ]; then right=$((right + 1)); return; fi
+    wrong=$((wrong + 1))
+    printf 'WRONG %s: %s\n  wanted: %q\n  got:    %q\n' "$name" "$1" "$2" "$3"
+}
+
+# a run: its status, what it printed (up to a final mark, so that no LF is lost) and what it said
+run() { # ARGUMENT..
+    "./$name" "$@" >"$room/out" 2>"$room/err"
+    status=$?
+    out=$(cat "$room/out"; echo .) err=$(cat "$room/err")
+}
+
+# a run and all that is wanted of it
+try() { # WHAT STATUS OUTPUT ERROR
+    is "$1: status" "$2" "$status"
+    is "$1: output" "$3." "$out"
+    is "$1: error" "$4" "$err"
+}
+
+refused_run() { # WHAT ERROR
+    try "$1" 1 "" "$2"
+}
+
+printf '0401\n' >"$room/a"
+printf '0402' >"$room/b"
+printf '04' >"$room/c"
+printf '' >"$room/none"
+printf '0401\n' >"$room/shut"
+printf '0401\n' >"$room/-dashed"
+mkdir "$room/folder"
+lf=$'\n'
+
+# what a program prints before the first frame, and of the frames that the tests use
+head_of() { case $name in dump) ;; soundings) sed -n 1p crates/soundings/stdout ;; esac; }
+alone() { printf '%s\n' "$1" | "./$name"; }        # one line by itself, as frame 1
+numbered() { # FRAME LINE: a line's text with another number
+    alone "$2" | tail -n +"$((1 + skip))" | sed "s/^1\([ ,]\)/$1\1/"
+}
+
+try_files() {
+    one=$(numbered 1 0401) two=$(numbered 2 0402) three=$(numbered 3 04)
+    all=$begin$one$lf$two$lf$three$lf
+    run "$room/a" "$room/b" "$room/c"
+    try 'three files, two without LF at their end' 0 "$all" ''
+    run "$room/a" "$room/b" - <"$room/c"
+    try 'the standard input behind files' 0 "$all" ''
+    run "$room/none" "$room/a" "$room/none" "$room/b" "$room/c"
+    try 'empty files among others' 0 "$all" ''
+    run <"$room/a"
+    try 'no file' 0 "$begin$one$lf" ''
+    run - <"$room/a"
+    try 'a dash' 0 "$begin$one$lf" ''
+    run <"$room/none"
+    try 'an empty input' 0 "$begin" ''
+    (cd "$room" && "$root/$name" -- -dashed >out 2>err; echo $? >status)
+    status=$(cat "$room/status") out=$(cat "$room/out"; echo .) err=$(cat "$room/err")
+    try 'a name with a dash, behind --' 0 "$begin$one$lf" ''
+}
+
+try_failures() {
+    refused=""
+    run "$room/a" "$room/missing"
+    refused_run 'a file that is missing, behind one that is not' "$name: $room/missing: No such file or directory"
+    run "$room/a" ''
+    refused_run 'an empty name' "$name: : No such file or directory"
+    run "$(head -c 5000 /dev/zero | tr '\0' a)"
+    refused_run 'a name that is too long' "$name: an argument: File name too long"
+    chmod 0 "$room/shut"
+    if [ "$(id -u)" != 0 ]; then
+        run "$room/shut"
+        refused_run 'a file that may not be read' "$name: $room/shut: Permission denied"
+    elif command -v setpriv >/dev/null && setpriv --reuid=65534 --regid=65534 --clear-groups test -x "./$name" 2>/dev/null; then
+        chmod 755 "$room"
+        setpriv --reuid=65534 --regid=65534 --clear-groups "./$name" "$room/shut" >"$room/out" 2>"$room/err"
+        status=$? out=$(cat "$room/out"; echo .) err=$(cat "$room/err")
+        refused_run 'a file that may not be read' "$name: $room/shut: Permission denied"
+    else
+        echo "$name: not tried: a file that may not be read (root may read all)"
+    fi
+    run "$room/folder"
+    try 'a directory' 1 "$begin" "$name: $room/folder: Is a directory"
+    run <"$room/folder"
+    try 'a directory as the standard input' 1 "$begin" "$name: standard input: Is a directory"
+    run <&-
+    try 'no standard input' 1 "$begin" "$name: standard input: Bad file descriptor"
+    run --wrong "$room/missing"
+    try 'an unknown option' 2 "" "$name: there is no option --wrong${lf}usage: $name [--count] [FILE..]"
+    run -x
+    is 'an unknown letter: status' 2 "$status"
+    err=$("./$name" "$room/a" 2>&1 >/dev/full)
+    is 'a full disk: status' 1 $?
+    is 'a full disk: error' "$name: standard output: No space left on device" "$err"
+    err=$("./$name" "$room/a" 2>&1 >&-)
+    is 'no standard output: status' 1 $?
+    is 'no standard output: error' "$name: standard output: Bad file descriptor" "$err"
+}
+
+# Many frames, so that the pipe's buffer is full before the reader goes.
+try_closed_pipe() {
+    yes 0401 | head -n 200000 >"$room/many"
+    { "./$name" "$room/many" 2>"$room/err"; echo $? >"$room/status"; } | head -n 1 >/dev/null
+    is 'a closed pipe: status' 141 "$(cat "$room/status")"
+    is 'a closed pipe: error' '' "$(cat "$room/err")"
+    { (trap '' PIPE; exec "./$name" "$room/many" 2>"$room/err"); echo $? >"$room/status"; } | head -n 1 >/dev/null
+    is 'a closed pipe, SIGPIPE ignored: status' 1 "$(cat "$room/status")"
+    is 'a closed pipe, SIGPIPE ignored: error' '' "$(cat "$room/err")"
+}
+
+# The same bytes however they are cut: written one at a time, and from a file at once.
+try_short_reads() {
+    head -c 3000 "crates/$name/stdin" >"$room/some"
+    "./$name" "$room/some" >"$room/whole"
+    while IFS= read -r -n 1 -d '' c; do printf '%s' "$c"; done <"$room/some" | "./$name" >"$room/out"
+    is 'bytes one by one' "$(cksum <"$room/whole")" "$(cksum <"$room/out")"
+}
+
+try_words() {
+    run --help
+    is 'help: status' 0 "$status"
+    is 'help: one screen' yes "$(awk 'length($0) > 80 { bad = 1 } END { print NR <= 24 && !bad ? "yes" : "no" }' "$room/out")"
+    while read -r number refusal; do
+        for text in "$room/out" "man/$name.1"; do
+            tr '\n' ' ' <"$text" | grep -q "[ ,]$number $refusal\b" || is "$text names refusal $number" "$refusal" ''
+        done
+    done < <(root=$root; . tools/program-text.sh; refusals)
+    run --version
+    is 'version: status' 0 "$status"
+    is 'version: toolchain' "toolchain: $(rt version)" "$(sed -n 2p "$room/out")"
+    is 'man page' '' "$(groff -man -Tutf8 -ww "man/$name.1" 2>&1 >/dev/null)"
+}
+
+# Lines of every kind: the crate's own input, with its counts.
+try_lines() {
+    run "crates/$name/stdin"
+    is 'lines of every kind: status' 0 "$status"
+    is 'lines of every kind: output' "$(cksum <"crates/$name/stdout")" "$(cksum <"$room/out")"
+    is 'lines of every kind: error' '' "$err"
+    run --count "crates/$name/stdin"
+    is 'counted: status' 0 "$status"
+    is 'counted: output' "$(cksum <"crates/$name/stdout")" "$(cksum <"$room/out")"
+    is 'counted: frames' "$(awk 'END { print NR }' "crates/$name/stdin") frames" "$(sed -n 1p "$room/err")"
+    is 'counted: all of them' "$(sed -n '1s/ .*//p' "$room/err")" "$(sed 1d "$room/err" | awk '{ n += $1 } END { print n }')"
+    [ "$name" != dump ] || is 'counted: by number' "$(awk '$2 != "F" { k = $2 == "NO" ? $2 " " $3 : $2; n[k]++ } END { for (k in n) print n[k], k }' \
+        "crates/$name/stdout" | sort)" "$(sed 1d "$room/err" | sort)"
+}
+
+# A long stream: the most memory that the program held must not grow with it.
+memory_of() { # MEGABYTES
+    yes "$(sed -n 1p "examples/soundings.hex")" | head -c "$1000000" | "./$name" 2>"$room/err" >/dev/null &
+    most=0
+    while kill -0 $! 2>/dev/null; do
+        now=$(ps -eo rss=,args= | awk -v p="$root/target/bin/$name" 'index($0, p " --status") { if ($1 > m) m = $1 } END { print m + 0 }')
+        [ "$now" -le "$most" ] || most=$now
+        sleep 0.2
+    done
+    wait $!
+    status=$?
+}
+
+try_stream() {
+    [ "${STREAM_MB:-32}" -gt 0 ] || { echo "$name: not tried: a long stream (STREAM_MB=0)"; return; }
+    memory_of 4
+    few=$most
+    memory_of "${STREAM_MB:-32}"
+    is "a stream of ${STREAM_MB:-32} MB: status" 0 "$status"
+    is "a stream of ${STREAM_MB:-32} MB: memory ($few kB for 4 MB, $most kB)" yes "$([ "$most" -le $((few + few / 10 + 1024)) ] && echo yes)"
+}
+
+for name in ${*:-dump soundings}; do
+    begin=$(head_of; echo .)
+    begin=${begin%.}
+    skip=$(printf '%s' "$begin" | wc -l)
+    try_lines
+    try_files
+    try_failures
+    try_closed_pipe
+    try_short_reads
+    try_words
+    try_stream
+done
+echo "$right right, $wrong wrong"
+[ "$wrong" -eq 0 ]
