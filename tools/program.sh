@@ -11,6 +11,11 @@ name=$1
 shift
 . "$root/tools/program-text.sh"
 
+# A standard stream that is closed would be handed to the next file that is opened. It is opened the wrong way round, so that it fails as before.
+{ true 9<&0; } 2>/dev/null || exec 0>/dev/null
+{ true 9>&1; } 2>/dev/null || exec 1</dev/null
+{ true 9>&2; } 2>/dev/null || exec 2>/dev/null
+
 fail() { printf '%s: %s\n' "$name" "$*" >&2; exit 1; }
 
 for word in "$@"; do

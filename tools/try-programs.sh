@@ -21,7 +21,7 @@ is() { # WHAT WANTED GOT
 
 # a run: its status, what it printed (up to a final mark, so that no LF is lost) and what it said
 run() { # ARGUMENT..
-    "./$name" "$@" >"$room/out" 2>"$room/err"
+    timeout 60 "./$name" "$@" >"$room/out" 2>"$room/err"
     status=$?
     out=$(cat "$room/out"; echo .) err=$(cat "$room/err")
 }
