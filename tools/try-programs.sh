@@ -126,7 +126,7 @@ try_closed_pipe() {
 try_short_reads() {
     head -c 3000 "crates/$name/stdin" >"$room/some"
     "./$name" "$room/some" >"$room/whole"
-    while IFS= read -r -n 1 -d '' c; do printf '%s' "$c"; done <"$room/some" | "./$name" >"$room/out"
+    dd if="$room/some" bs=1 2>"$room/err" | "./$name" >"$room/out"
     is 'bytes one by one' "$(cksum <"$room/whole")" "$(cksum <"$room/out")"
 }
 

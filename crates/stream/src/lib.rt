@@ -97,7 +97,9 @@ fn tell(status: bool, digit: &[u8]) {
 // ---- reading
 
 // One read, made again where it was interrupted.
-pub fn read_block(fd: i32, block: &mut [u8]) -> isize {
+pub fn read_block(fd: i32, block: &mut [u8]) -> isize
+    ensures { λ r. ⌜ length (now (block .exit)) ≡ length (now (block .entry)) ⌝ }
+{
     let mut turns = u64::MAX;
     while 0 < turns {
         turns -= 1;
@@ -134,6 +136,7 @@ fn next_file(files: &[i32], from: usize) -> usize {
     files.len()
 }
 
+// Nothing is read yet.
 pub fn from_the_first() -> Source
     ensures { λ r. ⌜ r .n ≡ 0 ⌝ }
 {
@@ -182,36 +185,40 @@ pub fn next_block(program: &[u8], files: &[i32], block: &mut [u8], s: Source) ->
 
 // ---- writing
 
-// Writes all of a text; false where a write took nothing or failed.
-pub fn write_all(fd: i32, text: &[u8]) -> bool {
+// Writes a text; how much of it was written, which is less than all where a write took nothing or failed.
+pub fn write_all(fd: i32, text: &[u8]) -> usize
+    ensures { λ r. ⌜ r ≤ length (now (text .entry)) ⌝ }
+{
     let mut at = 0;
     let mut turns = u64::MAX;
     while at < text.len() {
         if turns < 1 {
-            return false;
+            return at;
         }
         turns -= 1;
         let rest = &text[at..];
         let put = libc::write(fd, rest);
         if put < 1 {
             if os::errno() != libc::EINTR {
-                return false;
+                return at;
             }
         }
         at += io::count(put, rest);
     }
-    true
+    at
 }
 
-// Writes text to the standard output. A failure is said, but for a pipe that nobody reads any more.
-pub fn write_out(program: &[u8], text: &[u8]) -> bool {
-    if write_all(libc::STDOUT_FILENO, text) {
-        return true;
+// Writes a text to the standard output; how much of it was written. A failure is said, but for a pipe that nobody reads any more.
+pub fn write_out(program: &[u8], text: &[u8]) -> usize
+    ensures { λ r. ⌜ r ≤ length (now (text .entry)) ⌝ }
+{
+    let n = write_all(libc::STDOUT_FILENO, text);
+    if n < text.len() {
+        if os::errno() != libc::EPIPE {
+            fail_output(program);
+        }
     }
-    if os::errno() != libc::EPIPE {
-        fail_output(program);
-    }
-    false
+    n
 }
 
 // Says that the standard output failed. No argument is asked for, so the reason stays.
@@ -331,7 +338,9 @@ fn is_unknown(a: Argument) -> bool {
 }
 
 // Reads the arguments, opens all files, and says why there is nothing to do where that fails.
-pub fn open_all(program: &[u8], files: &mut [i32]) -> Start {
+pub fn open_all(program: &[u8], files: &mut [i32]) -> Start
+    ensures { λ r. ⌜ length (now (files .exit)) ≡ length (now (files .entry)) ⌝ }
+{
     let count = os::arg_count();
     let mut o = stream_orders::no_orders();
     let mut i = 1;
@@ -353,13 +362,16 @@ pub fn open_all(program: &[u8], files: &mut [i32]) -> Start {
     }
 }
 
-// Ends a run in which all was read and written: the output is closed, and the status told.
-pub fn finish(program: &[u8], s: Start) {
+// Ends a run in which all was read and written: the output is closed, and the status told. It is 1 where closing failed.
+pub fn finish(program: &[u8], s: Start) -> u8
+    ensures { λ r. ⌜ r ≤ 1 ⌝ }
+{
     if libc::close(libc::STDOUT_FILENO) < 0 {
         fail_output(program);
-        return;
+        return 1;
     }
     tell(s.status, b"0");
+    0
 }
 
 // ---- counting
@@ -369,33 +381,40 @@ fn say_count(n: usize, what: &[u8]) {
     say(what);
 }
 
-// Says how many frames were read, and how many of each verdict there were.
-pub fn say_counts(frames: usize, tally: &[usize]) {
+// Says how many frames were read, and how many of each verdict there were; how many verdicts there were.
+pub fn say_counts(frames: usize, tally: &[usize]) -> usize
+    ensures { λ r. ⌜ r ≤ length (now (tally .entry)) ⌝ }
+{
     say_count(frames, b" frames\n");
+    let mut said = 0;
     let mut v = 0;
     while v < tally.len() {
-        say_verdict(v, tally[v]);
+        said += say_verdict(v, tally[v]);
         v += 1;
     }
+    said
 }
 
-// A line in the words of the dump.
-fn say_verdict(v: usize, n: usize) {
+// A line in the words of the dump, where there is a frame; 1 if there is.
+fn say_verdict(v: usize, n: usize) -> usize
+    ensures { λ r. ⌜ r ≤ 1 ⌝ }
+{
+    if n < 1 {
+        return 0;
+    }
     if v < 1 {
         say_count(n, b" OK\n");
-        return;
-    }
-    if n < 1 {
-        return;
+        return 1;
     }
     if v == stream_orders::LONG {
         say_count(n, b" LONG\n");
-        return;
+        return 1;
     }
     if v == stream_orders::HEX {
         say_count(n, b" HEX\n");
-        return;
+        return 1;
     }
     say_count(n, b" NO ");
     say_count(v, b"\n");
+    1
 }

@@ -1,15 +1,15 @@
 -- `stream::say_counts` is safe and ends.
-use Prim.Native.Nat.{_-_}
+use Prim.Native.Nat.{_-_, _≤_}
 use lib.ListN.{length}
 use borrow.Author.Needs.{needs}
 use Rattle.stream.proofs.say_counts.Statement.{statement}
 use Rattle.stream.proofs.say_counts.Tie as tie
 
 abbrev Inv-loop : tie.InvT-loop
-Inv-loop frames tally v₀ v = Unit {0}
+Inv-loop frames tally said₀ v₀ said v = (said ≤ v) × (v ≤ length tally)
 
 abbrev μ-loop : tie.MeasureT-loop
-μ-loop frames tally v₀ v = length tally - v
+μ-loop frames tally said₀ v₀ said v = length tally - v
 
 slice-aggregate-say-count : tie.Need-slice-aggregate-say-count Inv-loop μ-loop
 slice-aggregate-say-count c = search needs
@@ -28,6 +28,9 @@ shared-slice-read-say-verdict c = search needs
 
 say-verdict-requires : tie.Need-say-verdict-requires Inv-loop μ-loop
 say-verdict-requires c κs = search needs
+
+add-said : tie.Need-add-said Inv-loop μ-loop
+add-said c = search needs
 
 add-v : tie.Need-add-v Inv-loop μ-loop
 add-v c = search needs
@@ -53,6 +56,7 @@ say-counts-spec =
     mul-say-verdict
     shared-slice-read-say-verdict
     say-verdict-requires
+    add-said
     add-v
     loop-less
     loop-again
