@@ -40,7 +40,11 @@ Files are read one behind the other; none, or -, is the standard input.
   --         all that follows are names of files
 Refusals:
 END
-    refusals | awk '{ t = $1 " " $2; if (NR > 1) line = line ","; if (length(line) + length(t) > 74) { print "  " line; line = t } else line = line (line == "" ? "" : " ") t } END { print "  " line }'
+    refusals | awk '
+        { t = $1 " " $2; if (NR > 1) line = line "," }
+        length(line) + length(t) > 74 { print "  " line; line = "" }
+        { line = line (line == "" ? "" : " ") t }
+        END { print "  " line }'
     echo 'Exit status: 0 if all was read and written, frames refused or not; 1 if not,'
     echo 'and standard error says why; 2 for an unknown option.'
 }
