@@ -62,7 +62,8 @@ pub fn decide(s: &[u8], start: usize, end: usize) -> Decided
 
 // The rest of a slice that is a message, from a place on. Wanted are the fields of a tag, or, if not exact, of that tag and all below it. The
 // walk stops at the wanted field at a number, or notes it and goes on to the end.
-// INLINE: the one walker of the library; the step is folded into it. Its parameters are numbers and bools, and there is no end among them.
+// INLINE: the one walker of the library; the step is folded into it. With an end among the parameters lookups take 1.16 times the instructions, with a
+// struct of the last four 1.02 times.
 pub fn walk(
     s: &[u8],
     at: usize,
