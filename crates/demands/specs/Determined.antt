@@ -1,6 +1,7 @@
 -- Any two outcomes that a contract allows are equal: the answer, and the contents of all that was lent. Gathered here, a line for each public
 -- function of each crate; each is proved beside its contract, in `proofs/Only.antt` of its crate, by the one general law of wire/specs/Only. The face's have
--- their own names, those of the other crates their crate's name in front. The programs `dump`, `soundings` and `replay` have no public function.
+-- their own names, those of the other crates their crate's name in front. The programs `dump`, `soundings` and `replay` have no public function, and no
+-- contract can say what `stream` reads and writes.
 
 -- what all share
 pub use Rattle.wire.proofs.Only.{number-of-one as wire-number-of-one}
@@ -145,3 +146,7 @@ pub use Rattle.capgauze_c.proofs.Only.{prepend-message-one as c-prepend-message
 pub use Rattle.capgauze_c.proofs.Only.{encoded-len-message-one as c-encoded-len-message-one}
 pub use Rattle.capgauze_c.proofs.Only.{insert-one as c-insert-one}
 pub use Rattle.capgauze_c.proofs.Only.{read-sounding-one as c-read-sounding-one}
+pub use Rattle.stream_orders.proofs.Only.{argument-of-one as stream-argument-of-one}
+pub use Rattle.stream_orders.proofs.Only.{no-orders-one as stream-no-orders-one}
+pub use Rattle.stream_orders.proofs.Only.{ordered-one as stream-ordered-one}
+pub use Rattle.stream_orders.proofs.Only.{count-one-one as stream-count-one-one}
