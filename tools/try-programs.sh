@@ -130,6 +130,22 @@ try_short_reads() {
     is 'bytes one by one' "$(cksum <"$room/whole")" "$(cksum <"$room/out")"
 }
 
+# Every second call is interrupted, and then one read fails, where strace can do that.
+try_interrupted() {
+    yes 0401 | head -n 50000 >"$room/many"
+    strace -qq -f -o "$room/calls" -e trace=none true 2>/dev/null || { echo "$name: not tried: interrupted calls (no strace)"; return; }
+    "./$name" "$room/many" >"$room/whole"
+    strace -qq -f -o "$room/calls" -P "$room/many" -e trace=read -e inject=read:error=EINTR:when=1+2 "./$name" "$room/many" >"$room/out" 2>"$room/err"
+    is 'interrupted reads: status' 0 $?
+    is 'interrupted reads: output' "$(cksum <"$room/whole")" "$(cksum <"$room/out")"
+    strace -qq -f -o "$room/calls" -P "$room/out" -e trace=write -e inject=write:error=EINTR:when=1+2 "./$name" "$room/many" >"$room/out" 2>"$room/err"
+    is 'interrupted writes: status' 0 $?
+    is 'interrupted writes: output' "$(cksum <"$room/whole")" "$(cksum <"$room/out")"
+    strace -qq -f -o "$room/calls" -P "$room/many" -e trace=read -e inject=read:error=EIO:when=2 "./$name" "$room/many" >"$room/out" 2>"$room/err"
+    is 'a read that fails: status' 1 $?
+    is 'a read that fails: error' "$name: $room/many: Input/output error" "$(cat "$room/err")"
+}
+
 try_words() {
     run --help
     is 'help: status' 0 "$status"
@@ -191,6 +207,7 @@ for name in ${*:-dump soundings}; do
     try_failures
     try_closed_pipe
     try_short_reads
+    try_interrupted
     try_words
     try_stream
 done
