@@ -22,7 +22,8 @@ pub taken-as : {x y : Taken} {l : List ℕ} {o : Taking} → x ≡ y → record 
 taken-as {x} {y} {l} e q = ap (λ (t : Taken). record { answer = t; line = l }) (sym e) ∙ q
 
 -- a printing by its text, whatever it leaves in the scratch
-as-printing : (p : Printing) {next : ℕ} {out : List ℕ} → next ≡ p .next → out ≡ p .out → record { next = next; out = out; bytes = p .bytes; table = p .table } ≡ p
+as-printing : (p : Printing) {next : ℕ} {out : List ℕ} → next ≡ p .next → out ≡ p .out
+    → record { next = next; out = out; bytes = p .bytes; table = p .table } ≡ p
 as-printing p e f = rw (e, f)
 
 -- a line printed, and counted or not
@@ -49,7 +50,8 @@ pub record Going (block line₀ bytes₀ table₀ out₀ : List ℕ) (s : State)
   pub filled : (ks : List ℕ) → Keeps line₀ (s .chars) ks
       → Filled block out₀ (s .used) (s .number) ks (drop (s .at) block) line (st .chars) (st .number) (st .at) out (st .used)
 
-pub go-start : (block : List ℕ) {line bytes table out : List ℕ} (s : State) → Ready line bytes table out (s .used) → Going block line bytes table out s line bytes table out s
+pub go-start : (block : List ℕ) {line bytes table out : List ℕ} (s : State) → Ready line bytes table out (s .used)
+    → Going block line bytes table out s line bytes table out s
 go-start block {out = out} s y =
     record {
       same = record { line = refl; bytes = refl; table = refl; out = refl };
@@ -57,7 +59,8 @@ go-start block {out = out} s y =
       filled = λ ks w. fill-start block (s .number) (s .at) out (s .used) w;
     }
 
-module _ {block line₀ bytes₀ table₀ out₀ : List ℕ} {s : State} {line bytes table out : List ℕ} {st : State} (g : Going block line₀ bytes₀ table₀ out₀ s line bytes table out st) where
+module _ {block line₀ bytes₀ table₀ out₀ : List ℕ} {s : State} {line bytes table out : List ℕ} {st : State}
+    (g : Going block line₀ bytes₀ table₀ out₀ s line bytes table out st) where
   pub go-done : Fills block line₀ out₀ s line out st
   go-done = record { inside = g .ready .inside; filled = g .filled }
 
@@ -79,6 +82,7 @@ module _ {block line₀ bytes₀ table₀ out₀ : List ℕ} {s : State} {line b
       let y = g .ready in
       let i = print-inside out (st .used) (st .number) line′ k bytes table (y .inside) in
       let room : st .used + frameRoom ≤ length out = omega (arith, y .inside) in
+      let q = as-printing (printFrame out (st .used) (st .number) line′ k bytes table) (p .place) (p .text) in
       record {
         same = record {
           line = x .line ∙ g .same .line;
@@ -92,7 +96,7 @@ module _ {block line₀ bytes₀ table₀ out₀ : List ℕ} {s : State} {line b
           wordRoom = omega (arith, x .table, y .wordRoom);
           inside = omega (arith, i, x .out, p .place);
         };
-        filled = λ ks w. rw n (fill-line (g .filled ks w) y room e (as-printing (printFrame out (st .used) (st .number) line′ k bytes table) (p .place) (p .text)));
+        filled = λ ks w. rw n (fill-line (g .filled ks w) y room e q);
       }
 
 -- ---- a file's end

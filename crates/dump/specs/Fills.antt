@@ -17,7 +17,8 @@ use Rattle.dump.specs.Verdict.{verdictOf}
 use Rattle.dump.specs.declared.State.{State}
 
 -- a line is printed as the frame is, and counted if that is asked
-pub record Reports (out : List ℕ) (used n : ℕ) (line : List ℕ) (k : ℕ) (bytes table tally : List ℕ) (counts : Bool) (next : ℕ) (out′ tally′ : List ℕ) : Type 0 where
+pub record Reports (out : List ℕ) (used n : ℕ) (line : List ℕ) (k : ℕ) (bytes table tally : List ℕ) (counts : Bool)
+    (next : ℕ) (out′ tally′ : List ℕ) : Type 0 where
   pub place : next ≡ printFrame out used n line k bytes table .next
   pub text : out′ ≡ printFrame out used n line k bytes table .out
   pub tallied : let p = printFrame out used n line k bytes table in tally′ ≡ choose counts (counted tally (verdictOf line k (p .bytes) (p .table))) tally

@@ -31,11 +31,13 @@ verdictOf line chars bytes table = frameVerdict (frameOf line chars bytes .answe
 -- ---- their cases
 
 module _ (s table : List ℕ) {t : List ℕ} where
-  pub message-told : {r q : Read} → r ≡ q → _≡_ {A = Outcome} (record { answer = r; table = t }) (readEntry s 0 (length s) table) → readVerdict q ≡ messageVerdict s table
+  pub message-told : {r q : Read} → r ≡ q → _≡_ {A = Outcome} (record { answer = r; table = t }) (readEntry s 0 (length s) table)
+      → readVerdict q ≡ messageVerdict s table
   unfolding messageVerdict
   message-told e o = rw (← o, e)
 
 module _ (line : List ℕ) (chars : ℕ) (bytes table : List ℕ) {b : List ℕ} where
-  pub line-told : {f g : Frame} → f ≡ g → _≡_ {A = Framed} (record { answer = f; out = b }) (frameOf line chars bytes) → frameVerdict g b table ≡ verdictOf line chars bytes table
+  pub line-told : {f g : Frame} → f ≡ g → _≡_ {A = Framed} (record { answer = f; out = b }) (frameOf line chars bytes)
+      → frameVerdict g b table ≡ verdictOf line chars bytes table
   unfolding verdictOf
   line-told e o = rw (← o, e)
