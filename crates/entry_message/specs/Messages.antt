@@ -38,7 +38,8 @@ use Rattle.entry_answer.specs.declared.Several.the-variants as severalAs
 unfoldable pub readEntry : List ℕ → ℕ → ℕ → List ℕ → Outcome
 readEntry s start e t = through (gated (length s) start e) (λ r. outcome (Refused r 0 0) t) (readInto s start e t)
 
-pub entry-open : (s : List ℕ) (start e : ℕ) (t : List ℕ) → length s ≤ messageLimit → start ≤ length s → e ≤ length s → readEntry s start e t ≡ readInto s start e t
+pub entry-open : (s : List ℕ) (start e : ℕ) (t : List ℕ) → length s ≤ messageLimit → start ≤ length s → e ≤ length s
+    → readEntry s start e t ≡ readInto s start e t
 unfolding readEntry
 entry-open s start e t h a b = through-open _ _ (gated-open (length s) start e h a b)
 
@@ -121,7 +122,9 @@ pub picked-several : (s : List ℕ) (tag : ℕ) → pickEntry s tag ≡ pickedFr
 unfolding pickEntry severalEntry
 picked-several s tag = go (gated (length s) 0 (length s))
   where
-    go : (g : Gated) → through g pickedAs.Refused (picked tag (readMessage s 0 (length s))) ≡ pickedFrom (through g severalAs.Refused (severalOf (sought tag 0 (readMessage s 0 (length s)))))
+    go : (g : Gated)
+        → through g pickedAs.Refused (picked tag (readMessage s 0 (length s))) ≡ pickedFrom
+        (through g severalAs.Refused (severalOf (sought tag 0 (readMessage s 0 (length s)))))
     go Open = picked-sought tag (readMessage s 0 (length s))
     go (Shut r) = refl
 

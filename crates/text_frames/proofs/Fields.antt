@@ -101,7 +101,8 @@ records-drop (f ∷ fs) t (suc i) h =
     rw e (records-drop fs t i (omega arith))
 
 -- record i of the table is that of field i
-pub record-is : (fs : List Field) (t : List ℕ) (i : ℕ) (f : Field) (gs : List Field) → i < length fs → drop i fs ≡ f ∷ gs → recordAt (records fs ++ t) i ≡ recordOf f
+pub record-is : (fs : List Field) (t : List ℕ) (i : ℕ) (f : Field) (gs : List Field) → i < length fs → drop i fs ≡ f ∷ gs
+    → recordAt (records fs ++ t) i ≡ recordOf f
 unfolding recordAt
 record-is fs t i f gs h e =
     let u = records fs ++ t in
@@ -158,13 +159,15 @@ list-start {out} {at} {head} {s} l =
 
 module _ {out : List ℕ} {at : ℕ} {head s table : List ℕ} {count : ℕ} {buf : List ℕ} {p i : ℕ} (w : Listing out at head s table count buf p i) where
   pub list-words : i < count → recordWords * i + recordWords ≤ length table
-  list-words h = omega (arith, w .has .many, ap length (w .has .listed), length-append (records (w .has .fields)) (w .has .rest), length-records (w .has .fields))
+  list-words h =
+      omega (arith, w .has .many, ap length (w .has .listed), length-append (records (w .has .fields)) (w .has .rest), length-records (w .has .fields))
 
   module _ (h : i < count) {r : Record} (e : r ≡ recordAt table i) where
     next : Next (w .has .fields) i r
     next = next-of (w .has .fields) (w .has .rest) i r (omega (arith, w .has .many)) (e ∙ ap (λ (t : List ℕ). recordAt t i) (w .has .listed))
 
-    next-put : Putting out at (fieldsText head (items s (w .has .fields))) buf p (fieldText head (itemOf s (fieldIn r)) ++ fieldsText head (items s (next .rest)))
+    next-put : Putting out at (fieldsText head (items s (w .has .fields))) buf p
+        (fieldText head (itemOf s (fieldIn r)) ++ fieldsText head (items s (next .rest)))
     next-put =
         subst (λ (x : Item). Putting out at (fieldsText head (items s (w .has .fields))) buf p (fieldText head x ++ fieldsText head (items s (next .rest))))
         (ap (itemOf s) (sym (next .is)))

@@ -51,7 +51,8 @@ landed-accepts e t (reading.Refused r p) x count t′ h = no-accept (sym (ap (λ
 pub answered : {x y : Read} {t : List ℕ} {o : Outcome} → x ≡ y → outcome x t ≡ o → outcome y t ≡ o
 answered {x} {y} {t} e q = ap (λ (z : Read). outcome z t) (sym e) ∙ q
 
-module _ {out : List ℕ} {at : ℕ} {s : List ℕ} (f : Framable out at s) (n : ℕ) (t : List ℕ) {r : Read} {t′ : List ℕ} (a : outcome r t′ ≡ readEntry s 0 (length s) t) where
+module _ {out : List ℕ} {at : ℕ} {s : List ℕ} (f : Framable out at s) (n : ℕ) (t : List ℕ) {r : Read} {t′ : List ℕ}
+    (a : outcome r t′ ≡ readEntry s 0 (length s) t) where
   -- the text of an answer has room, and is what is to be put
   pub answer-room : Roomy out at (answerText n s t′ r)
   unfolding outcomeText
@@ -59,7 +60,8 @@ module _ {out : List ℕ} {at : ℕ} {s : List ℕ} (f : Framable out at s) (n :
 
   pub answer-put : {m : ℕ} {c : List ℕ} → _≡_ {A = Placed} (record { next = m; buf = c }) (putAt out at (answerText n s t′ r)) → Messaged out at n s t m c t′
   unfolding outcomeText
-  answer-put p = (p ∙ put-roomy out at (answerText n s t′ r) answer-room ∙ ap (λ (o : Outcome). placed out at (outcomeText n s o)) a, ap (λ (o : Outcome). o .table) a)
+  answer-put p =
+      (p ∙ put-roomy out at (answerText n s t′ r) answer-room ∙ ap (λ (o : Outcome). placed out at (outcomeText n s o)) a, ap (λ (o : Outcome). o .table) a)
 
 -- the records of an accepted message are those of its fields
 pub closed : {out : List ℕ} {at : ℕ} {s : List ℕ} (f : Framable out at s) (n : ℕ) (t : List ℕ) {e count : ℕ} {t′ : List ℕ}

@@ -54,7 +54,8 @@ pub fill-start : (block : List ℕ) {line : List ℕ} {chars : ℕ} (n at : ℕ)
 fill-start block n at out used {ks} w = record { text = []; ks = ks; keeps = w; place = omega arith; put = refl; prints = record { same = λ later. refl; counts = λ later. refl } }
 
 -- what follows a line in its block
-after-line : (block : List ℕ) (at : ℕ) {line : List ℕ} {chars next k : ℕ} {line′ : List ℕ} (w : Whole (drop at block) at line chars next k line′) → drop next block ≡ w .tail
+after-line : (block : List ℕ) (at : ℕ) {line : List ℕ} {chars next k : ℕ} {line′ : List ℕ} (w : Whole (drop at block) at line chars next k line′)
+    → drop next block ≡ w .tail
 after-line block at {next = next} w =
     let e : next ≡ at + (length (w .xs) + 1) = omega (arith, w .place) in
     rw e (sym (drop-drop (length (w .xs) + 1) at block) ∙ ap (drop (length (w .xs) + 1)) (w .split) ∙ drop-append-add (w .xs) (10 ∷ w .tail) 1)
@@ -105,7 +106,8 @@ module _ {block out₀ : List ℕ} {used₀ n₀ : ℕ} {ks₀ rest₀ line : Li
           same = λ later. f .prints .same later
               ∙ ap (λ (ls : List (List ℕ)). f .text ++ printedFrom n ls) (lines-ended x (f .ks) later)
               ∙ rw (drop-of-length-le block {i = length block} (omega arith));
-          counts = λ later. f .prints .counts later ∙ ap (numberAfter n) (lines-ended x (f .ks) later) ∙ rw (drop-of-length-le block {i = length block} (omega arith));
+          counts =
+              λ later. f .prints .counts later ∙ ap (numberAfter n) (lines-ended x (f .ks) later) ∙ rw (drop-of-length-le block {i = length block} (omega arith));
         };
       }
 
@@ -128,7 +130,8 @@ pub data Dumps : ℕ → List ℕ → List ℕ → List (List ℕ) → List (Lis
       → Dumps n ks b later files texts → Dumps n ks [] (b ∷ later) files texts
   lastLine : {n : ℕ} {ks : List ℕ} {files : List (List (List ℕ))} {texts : List ℕ} → 1 ≤ length ks
       → Dumps (more n) [] [] [] files texts → Dumps n ks [] [] files (printed n ks ++ texts)
-  nextFile : {n : ℕ} {file : List (List ℕ)} {files : List (List (List ℕ))} {texts : List ℕ} → Dumps n [] [] file files texts → Dumps n [] [] [] (file ∷ files) texts
+  nextFile : {n : ℕ} {file : List (List ℕ)} {files : List (List (List ℕ))} {texts : List ℕ} → Dumps n [] [] file files texts
+      → Dumps n [] [] [] (file ∷ files) texts
   theEnd : {n : ℕ} → Dumps n [] [] [] [] []
 
 -- what the lines that are left of this file print, and then the other files

@@ -123,7 +123,8 @@ module _ (out : List ℕ) (at n : ℕ) (line : List ℕ) (chars : ℕ) (bytes ta
         let l = length-take chars line in
         let s : take (length bs) (sets bytes 0 bs) ≡ bs =
         ap (take (length bs)) (put-front bytes bs (omega arith)) ∙ take-at bs (drop (length bs) bytes) (length bs) refl in
-        rw (print-frame out at n line chars bytes table h (Bytes (length bs)) (sets bytes 0 bs) (sym e), s, outcome-text n bs table (omega arith) t) (refl, refl)
+        rw (print-frame out at n line chars bytes table h (Bytes (length bs)) (sets bytes 0 bs) (sym e), s, outcome-text n bs table (omega arith) t)
+        (refl, refl)
 
     pub line-printed : (ks : List ℕ) → Keeps line chars ks → Puts (printed n ks) (printFrame out at n line chars bytes table)
     unfolding printed

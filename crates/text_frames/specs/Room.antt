@@ -141,7 +141,8 @@ pub record Sized (n : ℕ) (s : List ℕ) (e p : ℕ) (fs : List Field) : Type 0
 sized-none : (n : ℕ) (s : List ℕ) (e p : ℕ) (fs : List Field) → p ≡ e → fs ≡ [] → Sized n s e p fs
 sized-none n s e p fs a b = rw b (record { inside = tt; before = omega arith; few = omega arith; size = omega arith })
 
-sized-some : (n : ℕ) (s : List ℕ) (e p last : ℕ) (f : Field) (q : ℕ) (gs : List Field) → fieldAt s e p last ≡ fieldFound.Got f q → Sized n s e q gs → Sized n s e p (f ∷ gs)
+sized-some : (n : ℕ) (s : List ℕ) (e p last : ℕ) (f : Field) (q : ℕ) (gs : List Field) → fieldAt s e p last ≡ fieldFound.Got f q → Sized n s e q gs
+    → Sized n s e p (f ∷ gs)
 sized-some n s e p last f q gs h w =
     let x = field-found s e p last f q h in
     let m = field-moves s e p last f q h in
@@ -173,7 +174,8 @@ sized-from n zero s e m p last fs h r = go (ended-fields zero s e m p last fs r)
     go (some f q gs a b c d) = let z : _≡_ {A = ℕ} 0 1 = omega arith in absurd (omega arith)
 sized-from n (suc k) s e m p last fs h r = go (λ f q gs. sized-from n k s e p q (f .tag) gs) (stands k s e m p last fs r)
   where
-    go : ((f : Field) (q : ℕ) (gs : List Field) → e - q ≤ k → readsFrom k s e p q (f .tag) ≡ Fields gs → Sized n s e q gs) → Stands k s e p last fs → Sized n s e p fs
+    go : ((f : Field) (q : ℕ) (gs : List Field) → e - q ≤ k → readsFrom k s e p q (f .tag) ≡ Fields gs → Sized n s e q gs) → Stands k s e p last fs
+        → Sized n s e p fs
     go ih (none a b) = sized-none n s e p fs a b
     go ih (some f q gs a b c d) = rw d (sized-some n s e p last f q gs b (ih f q gs (omega (arith, field-moves s e p last f q b .0)) c))
 

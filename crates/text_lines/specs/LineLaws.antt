@@ -45,7 +45,9 @@ whole [] at line chars next k line′ e =
 whole (c ∷ rest) at line chars next k line′ e = go (eqb c 10) refl (whole rest (at + 1) (set line chars c) (more chars) next k line′)
   where
     go : (b : Bool) → eqb c 10 ≡ b
-        → (record { answer = Line next k; line = line′ } ≡ takes rest (at + 1) (set line chars c) (more chars) → Whole rest (at + 1) (set line chars c) (more chars) next k line′)
+        →
+        (record { answer = Line next k; line = line′ } ≡ takes rest (at + 1) (set line chars c) (more chars)
+        → Whole rest (at + 1) (set line chars c) (more chars) next k line′)
         → Whole (c ∷ rest) at line chars next k line′
     go true b ih =
         let q : _≡_ {A = Taking} (record { answer = Line next k; line = line′ }) (record { answer = Line (at + 1) chars; line = line }) = simp b at e in
@@ -169,21 +171,29 @@ keeps-one {line} {chars} {ks} c w =
         let h = ltb-false (length ks) (length line) b in
         let e : length (ks ++ c ∷ []) ≡ suc (length ks) = omega (arith, length-append ks (c ∷ [])) in
         let f : line ≡ take (length line) ks = sym (take-all (length ks) line h) ∙ w .front in
-        rw (set-out line chars c (omega (arith, w .count, w .short)), take-all (length (ks ++ c ∷ [])) line (omega arith), take-append-le (length line) ks (c ∷ []) h) f
+        rw (
+          set-out line chars c (omega (arith, w .count, w .short)),
+          take-all (length (ks ++ c ∷ [])) line (omega arith),
+          take-append-le (length line) ks (c ∷ []) h,
+        ) f
 
 keeps-all : {line : List ℕ} {chars : ℕ} {ks : List ℕ} (xs : List ℕ) → Keeps line chars ks → Keeps (keptLine line chars xs) (keptCount chars xs) (ks ++ xs)
 keeps-all {line} {chars} {ks} [] w = rw (append-nil ks) w
-keeps-all {line} {chars} {ks} (c ∷ xs) w = subst (Keeps (keptLine line chars (c ∷ xs)) (keptCount chars (c ∷ xs))) (append-assoc ks (c ∷ []) xs) (keeps-all xs (keeps-one c w))
+keeps-all {line} {chars} {ks} (c ∷ xs) w =
+    subst (Keeps (keptLine line chars (c ∷ xs)) (keptCount chars (c ∷ xs))) (append-assoc ks (c ∷ []) xs) (keeps-all xs (keeps-one c w))
 
 kept-length : (line : List ℕ) (n : ℕ) (xs : List ℕ) → length (keptLine line n xs) ≡ length line
 kept-length line n [] = refl
 kept-length line n (x ∷ xs) = kept-length (set line n x) (more n) xs ∙ length-set line n x
 
-keeps-as : {line : List ℕ} {chars : ℕ} {ks : List ℕ} (xs : List ℕ) {k : ℕ} {line′ : List ℕ} → k ≡ keptCount chars xs → line′ ≡ keptLine line chars xs → Keeps line chars ks
+keeps-as : {line : List ℕ} {chars : ℕ} {ks : List ℕ} (xs : List ℕ) {k : ℕ} {line′ : List ℕ} → k ≡ keptCount chars xs → line′ ≡ keptLine line chars xs
+    → Keeps line chars ks
     → Keeps line′ k (ks ++ xs) × (length line′ ≡ length line)
 keeps-as {line} {chars} xs e f w = rw (e, f) (keeps-all xs w, kept-length line chars xs)
 
-pub whole-keeps : {rest : List ℕ} {at : ℕ} {line : List ℕ} {chars next k : ℕ} {line′ : List ℕ} {ks : List ℕ} (w : Whole rest at line chars next k line′) → Keeps line chars ks
+pub whole-keeps :
+    {rest : List ℕ} {at : ℕ} {line : List ℕ} {chars next k : ℕ} {line′ : List ℕ} {ks : List ℕ} (w : Whole rest at line chars next k line′)
+    → Keeps line chars ks
     → Keeps line′ k (ks ++ w .xs) × (length line′ ≡ length line)
 whole-keeps w = keeps-as (w .xs) (w .count) (w .kept)
 

@@ -66,7 +66,8 @@ valued c =
     let k = c .before .before .before in
     step-before _ _ _ _ (before (k .before .before .before))
     ∙ ap stepOf (field-keyed _ _ _ _ (sym (k .before .before .decode-key .ensures) ∙ k .key .given .1))
-    ∙ ap (λ (r : ValueFound). stepOf (tagged (k .key .given .0 .0 .tag) r)) (sym (of-wire _ _ _ _ (k .key .given .0 .0 .wire) _ (c .before .wire-number .ensures) (met c)))
+    ∙ ap (λ (r : ValueFound). stepOf (tagged (k .key .given .0 .0 .tag) r))
+    (sym (of-wire _ _ _ _ (k .key .given .0 .0 .wire) _ (c .before .wire-number .ensures) (met c)))
 
 returns-3 : tie.Need-returns-3
 returns-3 c =

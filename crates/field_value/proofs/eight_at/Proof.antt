@@ -48,13 +48,16 @@ add-t9 c = omega (arith, roomy (c .before .before))
 returns : tie.Need-returns
 returns c =
     let a = c .before .before .before .before .before .args in
-    ap (λ (n : ℕ). Got (SixtyFourBit n) (a .at + 8)) (omega (arith, eight (a .s .now) (a .at) (roomy (c .before .before)), c .before .four-from .ensures, c .four-from2 .ensures))
+    ap (λ (n : ℕ). Got (SixtyFourBit n) (a .at + 8))
+    (omega (arith, eight (a .s .now) (a .at) (roomy (c .before .before)), c .before .four-from .ensures, c .four-from2 .ensures))
     ∙ sym (within-inside (a .s .now) (a .end) (a .at + 8) (SixtyFourBit (number (take 8 (drop (a .at) (a .s .now))))) (there (c .before .before)))
 
 returns-2 : tie.Need-returns-2
 returns-2 c =
     let a = c .before .before .before .args in
-    sym (within-outside (a .s .now) (a .end) (a .at + 8) (SixtyFourBit (number (take 8 (drop (a .at) (a .s .now))))) (sym (c .before .has .ensures) ∙ c .if1 .left))
+    sym
+    (within-outside (a .s .now) (a .end) (a .at + 8) (SixtyFourBit (number (take 8 (drop (a .at) (a .s .now)))))
+    (sym (c .before .has .ensures) ∙ c .if1 .left))
 
 pub eight-at-spec : {M : Type 1} → statement M
 eight-at-spec =

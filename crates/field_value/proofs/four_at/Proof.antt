@@ -33,7 +33,9 @@ returns c =
 returns-2 : tie.Need-returns-2
 returns-2 c =
     let a = c .before .before .before .args in
-    sym (within-outside (a .s .now) (a .end) (a .at + 4) (ThirtyTwoBit (number (take 4 (drop (a .at) (a .s .now))))) (sym (c .before .has .ensures) ∙ c .if1 .left))
+    sym
+    (within-outside (a .s .now) (a .end) (a .at + 4) (ThirtyTwoBit (number (take 4 (drop (a .at) (a .s .now)))))
+    (sym (c .before .has .ensures) ∙ c .if1 .left))
 
 pub four-at-spec : {M : Type 1} → statement M
 four-at-spec = tie.close (tie.spec has-requires four-from-requires add-t8 returns returns-2)

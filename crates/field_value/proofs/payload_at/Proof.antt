@@ -32,7 +32,9 @@ returns c =
     let g = c .before .before .n .given in
     let e = sym (c .before .before .before .before .decode-varint .ensures) ∙ g .1 in
     let m = varint-moves (a .s .now) (a .at) (g .0 .0) (g .0 .1 .0) e in
-    sym (ap (payloadFrom (a .s .now) (a .end)) e ∙ within-slice (a .s .now) (a .end) (g .0 .1 .0 + g .0 .0) (LengthDelimited (g .0 .1 .0) (g .0 .0)) (omega (arith, m .1)))
+    sym
+    (ap (payloadFrom (a .s .now) (a .end)) e
+    ∙ within-slice (a .s .now) (a .end) (g .0 .1 .0 + g .0 .0) (LengthDelimited (g .0 .1 .0) (g .0 .0)) (omega (arith, m .1)))
 
 add-next : tie.Need-add-next
 add-next c = search needs
@@ -43,7 +45,9 @@ returns-2 c =
     let g = c .before .before .before .n .given in
     let e = sym (c .before .before .before .before .before .decode-varint .ensures) ∙ g .1 in
     let m = varint-moves (a .s .now) (a .at) (g .0 .0) (g .0 .1 .0) e in
-    sym (ap (payloadFrom (a .s .now) (a .end)) e ∙ within-end (a .s .now) (a .end) (g .0 .1 .0 + g .0 .0) (LengthDelimited (g .0 .1 .0) (g .0 .0)) (omega (arith, m .1)) (omega arith))
+    sym
+    (ap (payloadFrom (a .s .now) (a .end)) e
+    ∙ within-end (a .s .now) (a .end) (g .0 .1 .0 + g .0 .0) (LengthDelimited (g .0 .1 .0) (g .0 .0)) (omega (arith, m .1)) (omega arith))
 
 returns-3 : tie.Need-returns-3
 returns-3 c =
@@ -56,7 +60,9 @@ returns-4 c =
     let g = c .before .before .before .n .given in
     let e = sym (c .before .before .before .before .before .decode-varint .ensures) ∙ g .1 in
     let m = varint-moves (a .s .now) (a .at) (g .0 .0) (g .0 .1 .0) e in
-    sym (ap (payloadFrom (a .s .now) (a .end)) e ∙ within-back (a .s .now) (a .end) (g .0 .1 .0 + g .0 .0) (LengthDelimited (g .0 .1 .0) (g .0 .0)) (omega (arith, m .1)) (omega arith))
+    sym
+    (ap (payloadFrom (a .s .now) (a .end)) e
+    ∙ within-back (a .s .now) (a .end) (g .0 .1 .0 + g .0 .0) (LengthDelimited (g .0 .1 .0) (g .0 .0)) (omega (arith, m .1)) (omega arith))
 
 pub payload-at-spec : {M : Type 1} → statement M
 payload-at-spec =

@@ -40,7 +40,10 @@ enum-known-r c = search needs
 returns : tie.Need-returns Inv-loop μ-loop
 returns c =
     let l = c .before .before .before .before .before .loop in
-    sym (ap decided (walk-refused (l .inv .1) (c .before .before .before .before .loop-test .taken) _ (sym (c .before .before .before .decode-field .ensures) ∙ c .before .r .given .1)))
+    sym
+    (ap decided
+    (walk-refused (l .inv .1) (c .before .before .before .before .loop-test .taken) _
+    (sym (c .before .before .before .decode-field .ensures) ∙ c .before .r .given .1)))
 
 enum-known-f : tie.Need-enum-known-f Inv-loop μ-loop
 enum-known-f c = search needs
@@ -58,8 +61,11 @@ loop-less c =
 
 loop-again : tie.Need-loop-again Inv-loop μ-loop
 loop-again c =
-    let i = c .before .before .before .before .before .loop .inv in
-    (i .0 ++ c .before .f .given .0 .0 ∷ [], walk-field (i .1) (c .before .before .before .before .loop-test .taken) _ _ (turn c), omega (arith, i .2, length-append (i .0) (c .before .f .given .0 .0 ∷ [])))
+    let i = c .before .before .before .before .before .loop .inv in (
+      i .0 ++ c .before .f .given .0 .0 ∷ [],
+      walk-field (i .1) (c .before .before .before .before .loop-test .taken) _ _ (turn c),
+      omega (arith, i .2, length-append (i .0) (c .before .f .given .0 .0 ∷ [])),
+    )
 
 returns-2 : tie.Need-returns-2 Inv-loop μ-loop
 returns-2 c =

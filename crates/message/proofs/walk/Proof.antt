@@ -68,7 +68,9 @@ met : (c : tie.Joined1 Inv-loop μ-loop) → let a = c .before .before .before .
 met c =
     let a = c .before .before .before .before .before .before .before .args in
     let aim : Aim = record { want = a .want; exact = a .exact; number = a .number; stop = a .stop } in
-    ⊎-elim {C = wanted aim (c .before .before .f .given .0 .0 .tag) ≡ true} (λ w. wanted-below aim _ (w .1 .left) (w .2 .left)) (λ w. wanted-same aim _ (w .left)) (c .if1 .came)
+    ⊎-elim {C =
+    wanted aim (c .before .before .f .given .0 .0 .tag) ≡ true} (λ w. wanted-below aim _ (w .1 .left) (w .2 .left)) (λ w. wanted-same aim _
+    (w .left)) (c .if1 .came)
 
 returns-2 : tie.Need-returns-2 Inv-loop μ-loop
 returns-2 c =

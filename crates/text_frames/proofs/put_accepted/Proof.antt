@@ -14,7 +14,8 @@ use borrow.Author.Needs.{needs}
 use Rattle.text_frames.proofs.put_accepted.Statement.{statement}
 use Rattle.text_frames.proofs.put_accepted.Tie as tie
 
-made : (c : tie.After-put-head) → take (c .put-head .result - 0) (c .put-head .last .0) ≡ headed (c .before .before .before .before .before .before .args .n) wordF
+made : (c : tie.After-put-head)
+    → take (c .put-head .result - 0) (c .put-head .last .0) ≡ headed (c .before .before .before .before .before .before .args .n) wordF
 made c =
     let few = head-few (c .before .before .before .before .before .before .args .n) in
     front-is _ _ few (c .put-head .ensures) (c .put-head .result) (front-next _ _ few (c .put-head .ensures))
@@ -30,9 +31,13 @@ begun : (c : tie.Start) → Putting (c .args .out .now) (c .args .at) (lines c +
 unfolding lines closing
 begun c = put-start _ _ _ (c .pre .room)
 
-fielded : (c : tie.After-put-fields) → let s = c .before .before .before .before .before .before .before .before .before .before .before in Putting (s .args .out .now) (s .args .at) (lines s ++ closing s) (c .put-fields .last .0) (c .put-fields .result) (closing s)
+fielded : (c : tie.After-put-fields)
+    → let s = c .before .before .before .before .before .before .before .before .before .before .before in Putting (s .args .out .now) (s .args .at)
+    (lines s ++ closing s) (c .put-fields .last .0) (c .put-fields .result) (closing s)
 unfolding lines
-fielded c = let s = c .before .before .before .before .before .before .before .before .before .before .before in put-next (lines s) (closing s) (begun s) (rw (made (c .before .before .before .before .before)) at (c .put-fields .ensures))
+fielded c =
+    let s = c .before .before .before .before .before .before .before .before .before .before .before in
+    put-next (lines s) (closing s) (begun s) (rw (made (c .before .before .before .before .before)) at (c .put-fields .ensures))
 
 slice-aggregate-put-head : tie.Need-slice-aggregate-put-head
 slice-aggregate-put-head c = search needs
@@ -66,14 +71,18 @@ slice-aggregate-put-told c = search needs
 
 put-told-requires : tie.Need-put-told-requires
 unfolding lines closing
-put-told-requires c κs = last-room (closing (c .before .before .before .before .before .before .before .before .before .before .before .before .before .before .before)) (fielded (c .before .before .before .before))
+put-told-requires c κs =
+    let far = c .before .before .before .before .before .before .before .before .before .before .before .before .before .before in
+    last-room (closing (far .before)) (fielded (c .before .before .before .before))
 
 same-length : tie.Need-same-length
 same-length c = search needs
 
 returns : tie.Need-returns
 unfolding lines closing
-returns c = put-last (closing (c .before .before .before .before .before .before .before .before .before .before .before .before .before .before .before .before .before .before)) (fielded (c .before .before .before .before .before .before .before)) (c .before .before .put-told .ensures)
+returns c =
+    let far = c .before .before .before .before .before .before .before .before .before .before .before .before .before .before .before .before .before in
+    put-last (closing (far .before)) (fielded (c .before .before .before .before .before .before .before)) (c .before .before .put-told .ensures)
 
 pub put-accepted-spec : {M : Type 1} → statement M
 put-accepted-spec =

@@ -20,32 +20,51 @@ Step c buf p rest = let a = c .args in Putting (a .out .now) (a .at) (fieldText 
 abbrev rest : tie.Start → List ℕ
 rest c = afterKind (c .args .message .now) (c .args .r)
 
-headed : (c : tie.After-put-part) → let s = c .before .before .before .before .before in Step s (c .put-part .last .0) (c .put-part .result) (spaced (s .args .r .tag ∷ s .args .r .kind ∷ []) (rest s))
-headed c = let s = c .before .before .before .before .before in put-next (s .args .head .now) _ (line-start (s .pre)) (c .put-part .ensures ∙ whole-part _ _ (s .args .head .now))
+headed : (c : tie.After-put-part)
+    → let s = c .before .before .before .before .before in Step s (c .put-part .last .0) (c .put-part .result)
+    (spaced (s .args .r .tag ∷ s .args .r .kind ∷ []) (rest s))
+headed c =
+    let s = c .before .before .before .before .before in
+    put-next (s .args .head .now) _ (line-start (s .pre)) (c .put-part .ensures ∙ whole-part _ _ (s .args .head .now))
 
-tagged : (c : tie.After-put-number) → let s = c .before .before .before .before .before .before .before .before .before in Step s (c .put-number .last .0) (c .put-number .result) (spaced (s .args .r .kind ∷ []) (rest s))
+tagged : (c : tie.After-put-number)
+    → let s = c .before .before .before .before .before .before .before .before .before in Step s (c .put-number .last .0) (c .put-number .result)
+    (spaced (s .args .r .kind ∷ []) (rest s))
 tagged c = put-next _ _ (headed (c .before .before .before .before)) (c .put-number .ensures)
 
-typed : (c : tie.After-put-number2) → let s = c .before .before .before .before .before .before .before .before .before .before .before .before .before in Step s (c .put-number2 .last .0) (c .put-number2 .result) (rest s)
+typed : (c : tie.After-put-number2)
+    → let s = c .before .before .before .before .before .before .before .before .before .before .before .before .before in Step s
+    (c .put-number2 .last .0) (c .put-number2 .result) (rest s)
 typed c = put-next _ _ (tagged (c .before .before .before .before)) (c .put-number2 .ensures)
 
-parted : (c : tie.After-put-char) → let s = c .before .before .before .before .before .before .before .before .before .before .before .before .before .before .before .before .before in Step s (c .put-char .last .0) (c .put-char .result) (valueText (shown (s .args .message .now) (fieldIn (s .args .r) .value)) ++ 10 ∷ [])
+parted : (c : tie.After-put-char)
+    → let s = c .before .before .before .before .before .before .before .before .before .before .before .before .before .before .before .before
+    .before in Step s (c .put-char .last .0) (c .put-char .result)
+    (valueText (shown (s .args .message .now) (fieldIn (s .args .r) .value)) ++ 10 ∷ [])
 parted c = put-next (32 ∷ []) _ (typed (c .before .before .before .before)) (c .put-char .ensures)
 
-valued : (c : tie.After-put-value) → let s = c .before .before .before .before .before .before .before .before .before .before .before .before .before .before .before .before .before .before .before .before .before in Step s (c .put-value .last .0) (c .put-value .result) (10 ∷ [])
+valued : (c : tie.After-put-value)
+    → let s = c .before .before .before .before .before .before .before .before .before .before .before .before .before .before .before .before
+    .before .before .before .before .before in Step s (c .put-value .last .0) (c .put-value .result) (10 ∷ [])
 valued c = put-next _ _ (parted (c .before .before .before .before)) (c .put-value .ensures)
 
 put-part-requires : tie.Need-put-part-requires
 put-part-requires c κs = search needs
 
 put-number-requires : tie.Need-put-number-requires
-put-number-requires c κs = let s = c .before .before .before .before .before .before .before .before in has-room (32 ∷ decimal (s .args .r .tag)) (spaced (s .args .r .kind ∷ []) (rest s)) (headed (c .before .before .before))
+put-number-requires c κs =
+    let s = c .before .before .before .before .before .before .before .before in
+    has-room (32 ∷ decimal (s .args .r .tag)) (spaced (s .args .r .kind ∷ []) (rest s)) (headed (c .before .before .before))
 
 put-number-requires-2 : tie.Need-put-number-requires-2
-put-number-requires-2 c κs = let s = c .before .before .before .before .before .before .before .before .before .before .before .before in has-room (32 ∷ decimal (s .args .r .kind)) (rest s) (tagged (c .before .before .before))
+put-number-requires-2 c κs =
+    let s = c .before .before .before .before .before .before .before .before .before .before .before .before in
+    has-room (32 ∷ decimal (s .args .r .kind)) (rest s) (tagged (c .before .before .before))
 
 put-char-requires : tie.Need-put-char-requires
-put-char-requires c κs = let s = c .before .before .before .before .before .before .before .before .before .before .before .before .before .before .before .before in has-room (32 ∷ []) (valueText (shown (s .args .message .now) (fieldIn (s .args .r) .value)) ++ 10 ∷ []) (typed (c .before .before .before))
+put-char-requires c κs =
+    let s = c .before .before .before .before .before .before .before .before .before .before .before .before .before .before .before .before in
+    has-room (32 ∷ []) (valueText (shown (s .args .message .now) (fieldIn (s .args .r) .value)) ++ 10 ∷ []) (typed (c .before .before .before))
 
 put-value-requires : tie.Need-put-value-requires
 put-value-requires c κs =

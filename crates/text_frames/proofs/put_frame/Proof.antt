@@ -33,7 +33,11 @@ slice-aggregate-put-word : tie.Need-slice-aggregate-put-word
 slice-aggregate-put-word c = search needs
 
 put-word-requires : tie.Need-put-word-requires
-put-word-requires c κs = let a = c .before .before .before .before .before .before .before .before .before .before .before .before .before .before .args in word-room (a .out .now) (a .at) (a .n) (a .line .now) (a .chars) (a .bytes .now) (a .table .now) (wide (c .before .before .before .before .before .before .before .before)) wordLONG (omega arith)
+put-word-requires c κs =
+    let far = c .before .before .before .before .before .before .before .before .before .before .before .before .before .before in
+    let a = far .args in
+    word-room (a .out .now) (a .at) (a .n) (a .line .now) (a .chars) (a .bytes .now) (a .table .now)
+    (wide (c .before .before .before .before .before .before .before .before)) wordLONG (omega arith)
 
 enum-told-2 : tie.Need-enum-told-2
 enum-told-2 c = search needs
@@ -42,7 +46,11 @@ slice-aggregate-put-word-2 : tie.Need-slice-aggregate-put-word-2
 slice-aggregate-put-word-2 c = search needs
 
 put-word-requires-2 : tie.Need-put-word-requires-2
-put-word-requires-2 c κs = let a = c .before .before .before .before .before .before .before .before .before .before .before .before .before .before .args in word-room (a .out .now) (a .at) (a .n) (a .line .now) (a .chars) (a .bytes .now) (a .table .now) (wide (c .before .before .before .before .before .before .before .before)) wordHEX (omega arith)
+put-word-requires-2 c κs =
+    let far = c .before .before .before .before .before .before .before .before .before .before .before .before .before .before in
+    let a = far .args in
+    word-room (a .out .now) (a .at) (a .n) (a .line .now) (a .chars) (a .bytes .now) (a .table .now)
+    (wide (c .before .before .before .before .before .before .before .before)) wordHEX (omega arith)
 
 enum-known-k : tie.Need-enum-known-k
 enum-known-k c = search needs
@@ -54,10 +62,19 @@ part-put-message-start : tie.Need-part-put-message-start
 part-put-message-start c = search needs
 
 part-put-message-end : tie.Need-part-put-message-end
-part-put-message-end c = let a = c .before .before .before .before .before .before .before .before .before .before .before .before .before .before .before .args in frame-inside (a .out .now) (a .at) (a .n) (a .line .now) (a .chars) (a .bytes .now) (a .table .now) (wide (c .before .before .before .before .before .before .before .before .before)) (framed-as (c .before .before .before .k .given .1) (c .before .before .before .before .before .before .before .frame-of .ensures))
+part-put-message-end c =
+    let far = c .before .before .before .before .before .before .before .before in
+    let a = far .before .before .before .before .before .before .before .args in
+    frame-inside (a .out .now) (a .at) (a .n) (a .line .now) (a .chars) (a .bytes .now) (a .table .now) (wide (far .before))
+    (framed-as (c .before .before .before .k .given .1) (c .before .before .before .before .before .before .before .frame-of .ensures))
 
 put-message-requires : tie.Need-put-message-requires
-put-message-requires c κs = let a = c .before .before .before .before .before .before .before .before .before .before .before .before .before .before .before .before .before .args in framable (a .out .now) (a .at) (a .n) (a .line .now) (a .chars) (a .bytes .now) (a .table .now) (wide (c .before .before .before .before .before .before .before .before .before .before .before)) (framed-as (c .before .before .before .before .before .k .given .1) (c .before .before .before .before .before .before .before .before .before .frame-of .ensures))
+put-message-requires c κs =
+    let far = c .before .before .before .before .before .before .before .before .before in
+    let further = far .before .before .before .before .before .before .before .before in
+    let a = further .args in
+    framable (a .out .now) (a .at) (a .n) (a .line .now) (a .chars) (a .bytes .now) (a .table .now) (wide (far .before .before))
+    (framed-as (c .before .before .before .before .before .k .given .1) (far .frame-of .ensures))
 
 same-length : tie.Need-same-length
 same-length c = search needs
@@ -67,9 +84,12 @@ same-length-2 c = search needs
 
 returns-3 : tie.Need-returns-3
 returns-3 c =
-    let a = c .before .before .before .before .before .before .before .before .before .before .before .before .before .before .before .before .before .args in
-    word-put (a .out .now) (a .at) (a .n) (a .line .now) (a .chars) (a .bytes .now) (a .table .now) (wide (c .before .before .before .before .before .before .before .before .before .before .before)) Long wordLONG (omega arith) refl
-    (framed-as (c .before .before .before .before .before .enum-told .given .1) (c .before .before .before .before .before .before .before .before .before .frame-of .ensures)) (c .before .before .put-word .ensures)
+    let far = c .before .before .before .before .before .before .before .before .before in
+    let further = far .before .before .before .before .before .before .before .before in
+    let a = further .args in
+    word-put (a .out .now) (a .at) (a .n) (a .line .now) (a .chars) (a .bytes .now) (a .table .now) (wide (far .before .before)) Long wordLONG
+    (omega arith) refl
+    (framed-as (c .before .before .before .before .before .enum-told .given .1) (far .frame-of .ensures)) (c .before .before .put-word .ensures)
 
 same-length-3 : tie.Need-same-length-3
 same-length-3 c = search needs
@@ -79,9 +99,11 @@ same-length-4 c = search needs
 
 returns-4 : tie.Need-returns-4
 returns-4 c =
-    let a = c .before .before .before .before .before .before .before .before .before .before .before .before .before .before .before .before .before .args in
-    word-put (a .out .now) (a .at) (a .n) (a .line .now) (a .chars) (a .bytes .now) (a .table .now) (wide (c .before .before .before .before .before .before .before .before .before .before .before)) Hex wordHEX (omega arith) refl
-    (framed-as (c .before .before .before .before .before .enum-told2 .given .1) (c .before .before .before .before .before .before .before .before .before .frame-of .ensures)) (c .before .before .put-word2 .ensures)
+    let far = c .before .before .before .before .before .before .before .before .before in
+    let further = far .before .before .before .before .before .before .before .before in
+    let a = further .args in
+    word-put (a .out .now) (a .at) (a .n) (a .line .now) (a .chars) (a .bytes .now) (a .table .now) (wide (far .before .before)) Hex wordHEX (omega arith) refl
+    (framed-as (c .before .before .before .before .before .enum-told2 .given .1) (far .frame-of .ensures)) (c .before .before .put-word2 .ensures)
 
 same-length-5 : tie.Need-same-length-5
 same-length-5 c = search needs
@@ -94,9 +116,12 @@ same-length-7 c = search needs
 
 returns-5 : tie.Need-returns-5
 returns-5 c =
-    let a = c .before .before .before .before .before .before .before .before .before .before .before .before .before .before .before .before .before .before .before .before .before .before .args in
-    frame-put (a .out .now) (a .at) (a .n) (a .line .now) (a .chars) (a .bytes .now) (a .table .now) (wide (c .before .before .before .before .before .before .before .before .before .before .before .before .before .before .before .before))
-    (framed-as (c .before .before .before .before .before .before .before .before .before .before .k .given .1) (c .before .before .before .before .before .before .before .before .before .before .before .before .before .before .frame-of .ensures)) (c .before .before .before .before .put-message .ensures)
+    let far = c .before .before .before .before .before .before .before .before .before .before in
+    let further = far .before .before .before .before .before .before .before .before .before .before .before .before in
+    let a = further .args in
+    frame-put (a .out .now) (a .at) (a .n) (a .line .now) (a .chars) (a .bytes .now) (a .table .now)
+    (wide (far .before .before .before .before .before .before))
+    (framed-as (far .k .given .1) (far .before .before .before .before .frame-of .ensures)) (c .before .before .before .before .put-message .ensures)
 
 pub put-frame-spec : {M : Type 1} → statement M
 put-frame-spec =

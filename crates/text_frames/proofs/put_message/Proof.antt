@@ -18,8 +18,10 @@ number-of-requires c κs = search needs
 
 put-told-requires : tie.Need-put-told-requires
 put-told-requires c κs =
-    let s = c .before .before .before .before .before .before .before .before .before .before .before .before .before in
-    rw (c .number-of .ensures) (answer-room (s .pre) (s .args .n) (s .args .table .now) (answered (c .before .before .before .before .r .given .1) (c .before .before .before .before .before .before .before .before .read-message .ensures)))
+    let far = c .before .before .before .before .before .before .before .before in
+    let s = far .before .before .before .before .before in
+    rw (c .number-of .ensures)
+    (answer-room (s .pre) (s .args .n) (s .args .table .now) (answered (c .before .before .before .before .r .given .1) (far .read-message .ensures)))
 
 enum-known-count : tie.Need-enum-known-count
 enum-known-count c = search needs
@@ -27,7 +29,8 @@ enum-known-count c = search needs
 put-accepted-requires : tie.Need-put-accepted-requires
 put-accepted-requires c κs =
     let s = c .before .before .before .before .before .before .before .before .before .before .before .before in
-    closed (s .pre) (s .args .n) (s .args .table .now) (answered (c .before .before .before .count .given .1) (c .before .before .before .before .before .before .before .read-message .ensures))
+    closed (s .pre) (s .args .n) (s .args .table .now)
+    (answered (c .before .before .before .count .given .1) (c .before .before .before .before .before .before .before .read-message .ensures))
 
 same-length : tie.Need-same-length
 same-length c = search needs
@@ -37,8 +40,10 @@ same-length-2 c = search needs
 
 returns : tie.Need-returns
 returns c =
-    let s = c .before .before .before .before .before .before .before .before .before .before .before .before .before .before .before .before in
-    answer-put (s .pre) (s .args .n) (s .args .table .now) (answered (c .before .before .before .before .before .before .before .r .given .1) (c .before .before .before .before .before .before .before .before .before .before .before .read-message .ensures))
+    let far = c .before .before .before .before .before .before .before .before .before .before .before in
+    let s = far .before .before .before .before .before in
+    answer-put (s .pre) (s .args .n) (s .args .table .now)
+    (answered (c .before .before .before .before .before .before .before .r .given .1) (far .read-message .ensures))
     (rw (c .before .before .before .number-of .ensures) at (c .before .before .put-told .ensures))
 
 same-length-3 : tie.Need-same-length-3
@@ -49,8 +54,10 @@ same-length-4 c = search needs
 
 returns-2 : tie.Need-returns-2
 returns-2 c =
-    let s = c .before .before .before .before .before .before .before .before .before .before .before .before .before .before .before in
-    answer-put (s .pre) (s .args .n) (s .args .table .now) (answered (c .before .before .before .before .before .before .count .given .1) (c .before .before .before .before .before .before .before .before .before .before .read-message .ensures))
+    let far = c .before .before .before .before .before .before .before .before .before .before in
+    let s = far .before .before .before .before .before in
+    answer-put (s .pre) (s .args .n) (s .args .table .now)
+    (answered (c .before .before .before .before .before .before .count .given .1) (far .read-message .ensures))
     (c .before .before .put-accepted .ensures)
 
 pub put-message-spec : {M : Type 1} → statement M

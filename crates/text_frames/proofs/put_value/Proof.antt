@@ -18,12 +18,17 @@ same-length : tie.Need-same-length
 same-length c = search needs
 
 returns : tie.Need-returns
-returns c = let a = c .before .before .before .before .before .before .before .args in rw (text-number (a .message .now) (a .r .kind) (a .r .value) (a .r .length) (c .before .before .before .before .if1 .taken)) (c .before .before .put-hex .ensures)
+returns c =
+    let a = c .before .before .before .before .before .before .before .args in
+    rw (text-number (a .message .now) (a .r .kind) (a .r .value) (a .r .length) (c .before .before .before .before .if1 .taken))
+    (c .before .before .put-hex .ensures)
 
 payload-of-requires : tie.Need-payload-of-requires
 payload-of-requires c κs = search needs
 
-part : (c : tie.After-payload-of) → let a = c .before .before .before .before .before .before .args in bytesText (now (c .payload-of .result)) ≡ valueText (shown (a .message .now) (fieldIn (a .r) .value))
+part : (c : tie.After-payload-of)
+    → let a = c .before .before .before .before .before .before .args in bytesText (now (c .payload-of .result)) ≡ valueText
+    (shown (a .message .now) (fieldIn (a .r) .value))
 part c =
     let d = c .before .before .before .before .before .before in
     let a = d .args in
@@ -45,14 +50,21 @@ returns-2 c = rw (← (part (c .before .before .before))) (c .before .before .pu
 put-fixed-requires : tie.Need-put-fixed-requires
 put-fixed-requires c κs =
     let d = c .before .before .before .before .before .before in
-    let a = d .args in
-    (omega arith, rw (text-four (a .message .now) (a .r .kind) (a .r .value) (a .r .length) (c .before .before .if2 .left) (c .before .if3 .taken)) at (d .pre .room))
+    let a = d .args in (
+      omega arith,
+      rw (text-four (a .message .now) (a .r .kind) (a .r .value) (a .r .length) (c .before .before .if2 .left) (c .before .if3 .taken)) at (d .pre .room),
+    )
 
 same-length-3 : tie.Need-same-length-3
 same-length-3 c = search needs
 
 returns-3 : tie.Need-returns-3
-returns-3 c = let a = c .before .before .before .before .before .before .before .before .before .args in rw (text-four (a .message .now) (a .r .kind) (a .r .value) (a .r .length) (c .before .before .before .before .before .if2 .left) (c .before .before .before .before .if3 .taken)) (c .before .before .put-fixed .ensures)
+returns-3 c =
+    let far = c .before .before .before .before .before .before .before .before .before in
+    let a = far .args in
+    rw
+    (text-four (a .message .now) (a .r .kind) (a .r .value) (a .r .length) (c .before .before .before .before .before .if2 .left)
+    (c .before .before .before .before .if3 .taken)) (c .before .before .put-fixed .ensures)
 
 put-fixed-requires-2 : tie.Need-put-fixed-requires-2
 put-fixed-requires-2 c κs =
@@ -64,7 +76,11 @@ same-length-4 : tie.Need-same-length-4
 same-length-4 c = search needs
 
 returns-4 : tie.Need-returns-4
-returns-4 c = let a = c .before .before .before .before .before .before .before .before .before .args in rw (text-eight (a .message .now) (a .r .kind) (a .r .value) (a .r .length) (c .before .before .before .before .if3 .left)) (c .before .before .put-fixed2 .ensures)
+returns-4 c =
+    let far = c .before .before .before .before .before .before .before .before .before in
+    let a = far .args in
+    rw (text-eight (a .message .now) (a .r .kind) (a .r .value) (a .r .length) (c .before .before .before .before .if3 .left))
+    (c .before .before .put-fixed2 .ensures)
 
 pub put-value-spec : {M : Type 1} → statement M
 put-value-spec =

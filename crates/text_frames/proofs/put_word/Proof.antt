@@ -7,7 +7,8 @@ use borrow.Author.Needs.{needs}
 use Rattle.text_frames.proofs.put_word.Statement.{statement}
 use Rattle.text_frames.proofs.put_word.Tie as tie
 
-begun : (c : tie.Start) → let a = c .args in Putting (a .out .now) (a .at) (told (a .n) (a .word .now) []) (a .out .now) (a .at) (headed (a .n) (a .word .now) ++ 10 ∷ [])
+begun : (c : tie.Start)
+    → let a = c .args in Putting (a .out .now) (a .at) (told (a .n) (a .word .now) []) (a .out .now) (a .at) (headed (a .n) (a .word .now) ++ 10 ∷ [])
 unfolding told
 begun c = put-start _ _ _ (c .pre)
 
