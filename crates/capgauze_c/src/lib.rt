@@ -204,7 +204,8 @@ pub extern "C" fn capgauze_payload_of(
     }
 }
 
-// A record's payload read as a message in itself: handed on to the export, so that the reader has one caller and is folded into it.
+// A record's payload read as a message in itself.
+// INLINE: handed on to the export, so that the reader has one caller and is folded into it; with a second one counts were 7 to 12 % higher.
 #[no_mangle]
 pub extern "C" fn capgauze_read_payload(
     s: &[u8],

@@ -162,8 +162,8 @@ fn fill(s: &[u8], start: usize, end: usize, table: &mut [u64])
     }
 }
 
-// A message read into a table: nothing is written before the whole message is known to be good and to have room. Fill is called in two
-// places, and so is not folded in here, where its places would take registers from pass one.
+// A message read into a table: nothing is written before the whole message is known to be good and to have room.
+// INLINE: fill is called in two places, and so is not folded in here, where its places would take registers from pass one (a message cut short: 2 % more).
 pub fn read_into(s: &[u8], start: usize, end: usize, table: &mut [u64]) -> Read
     ensures { λ r. ⌜ record { answer = r; table = now (table .exit) } ≡ readInto (now (s .entry)) start end (now (table .entry)) ⌝ }
 {

@@ -23,7 +23,7 @@ fn put_each(buf: &mut [u8], at: usize, bytes: &[u8], from: usize, n: usize) -> u
     p
 }
 
-// All bytes are read before one is put: where n is known, the compiler keeps them in registers and makes no array.
+// INLINE: all bytes are read before one is put: where n is known, the compiler keeps them in registers and makes no array.
 fn put_block(buf: &mut [u8], at: usize, bytes: &[u8], from: usize, n: usize) -> usize
     requires { ⌜ (n ≤ 128) × (from + n ≤ length (now bytes)) × (at + n ≤ length (now buf)) ⌝ }
     ensures { λ r. ⌜ record { next = r; buf = now (buf .exit) } ≡ putPart (now (buf .entry)) at (now (bytes .entry)) from n ⌝ }

@@ -32,7 +32,8 @@ fn zero_between(low: u8, high: u8, c: u8, other: u8) -> u8
     other
 }
 
-// 1 for a character that is no digit, else 0. It has no branch to take, so that the compiler tests many characters at a time.
+// 1 for a character that is no digit, else 0.
+// INLINE: it has no branch to take, so that the compiler tests many characters at a time.
 fn fault(c: u8) -> u8
     ensures { λ r. ⌜ r ≡ faultOf c ⌝ }
 {
