@@ -1,5 +1,6 @@
-// The face for C: one exported function for each entry, with numbers, slices and plain structs. Every answer that can be refused is a struct whose
-// first word is the number of rule R1. A wire type passes as a number; one above 3 is BadRecord, before all else (R10).
+// The face for C: an exported function for each entry, with numbers, slices and plain structs; the held reader and what goes through it, `more_at`,
+// `copy_message` and a wire type's number have none. Every answer that can be refused is a struct whose first word is the number of rule R1. A wire type
+// passes as a number; one above 3 is BadRecord, before all else (R10).
 ghost use mathlib.Core.Path.{_≡_};
 ghost use lib.ListN.{length as size};
 ghost use Rattle.wire.specs.Varint.{encode};
