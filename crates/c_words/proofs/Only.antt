@@ -2,8 +2,8 @@
 use mathlib.Core.Path.{_∙_, sym}
 use Rattle.wire.specs.Only.{One}
 use Rattle.c_words.specs.Words.{asNumber, asVarint, asRead, asKey, asValue, asPlace, asStep, asWritten, asPicked, asSeveral, asEarly, asSounding}
-use Rattle.c_words.proofs.wire_type.Kinds as wire-type
-use Rattle.c_words.proofs.wire_type.Reads as wire-type-reads
+use Rattle.c_words.proofs.typed_of.Kinds as typed-of
+use Rattle.c_words.proofs.typed_of.Reads as typed-of-reads
 use Rattle.c_words.proofs.put_words.Kinds as put-words
 use Rattle.c_words.proofs.put_words.Reads as put-words-reads
 use Rattle.c_words.proofs.varint_words.Kinds as varint-words
@@ -33,8 +33,8 @@ use Rattle.c_words.proofs.early_words.Reads as early-words-reads
 use Rattle.c_words.proofs.sounding_words.Kinds as sounding-words
 use Rattle.c_words.proofs.sounding_words.Reads as sounding-words-reads
 
-pub wire-type-one : One 0 wire-type.ps wire-type.r wire-type-reads.Post (λ κs r s. r)
-wire-type-one κs a x y s t p q = p ∙ sym q
+pub typed-of-one : One 0 typed-of.ps typed-of.r typed-of-reads.Post (λ κs r s. r)
+typed-of-one κs a x y s t p q = p ∙ sym q
 
 pub put-words-one : One 0 put-words.ps put-words.r put-words-reads.Post (λ κs r s. asNumber r)
 put-words-one κs a x y s t p q = p ∙ sym q

@@ -44,13 +44,13 @@ abbrev pub asRead : ReadWords → told.Message
 asRead r = record { number = r .number; place = r .place; count = r .count }
 
 abbrev pub asPicked : PickWords → told.Pick
-asPicked r = record { number = r .number; found = r .found; type = r .kind; value = r .value; length = r .length }
+asPicked r = record { number = r .number; found = r .found; kind = r .kind; value = r .value; length = r .length }
 
 abbrev pub asSeveral : LookupWords → told.Several
-asSeveral r = record { number = r .number; count = r .many; found = r .found; type = r .kind; value = r .value; length = r .length }
+asSeveral r = record { number = r .number; count = r .many; found = r .found; kind = r .kind; value = r .value; length = r .length }
 
 abbrev pub asEarly : LookupWords → told.Early
-asEarly r = record { number = r .number; keys = r .many; found = r .found; type = r .kind; value = r .value; length = r .length }
+asEarly r = record { number = r .number; keys = r .many; found = r .found; kind = r .kind; value = r .value; length = r .length }
 
 -- a lookup's words where a field was found, and where none was
 abbrev pub foundWords : ℕ → Field → LookupWords
@@ -63,7 +63,7 @@ abbrev pub uncountedOf : LookupWords → PickWords
 uncountedOf w = record { number = w .number; found = w .found; kind = w .kind; value = w .value; length = w .length }
 
 abbrev pub asKey : KeyWords → told.Key
-asKey r = record { number = r .number; tag = r .tag; type = r .kind; place = r .place }
+asKey r = record { number = r .number; tag = r .tag; kind = r .kind; place = r .place }
 
 abbrev pub asValue : ValueWords → told.Value
 asValue r = record { number = r .number; value = r .value; length = r .length; place = r .place }
@@ -73,7 +73,7 @@ asPlace r = record { number = r .number; place = r .place }
 
 abbrev pub asStep : StepWords → told.Field
 asStep r =
-    record { number = r .number; found = r .found; tag = r .tag; type = r .kind; value = r .value; length = r .length; place = r .place }
+    record { number = r .number; found = r .found; tag = r .tag; kind = r .kind; value = r .value; length = r .length; place = r .place }
 
 abbrev pub asWritten : WrittenWords → told.Wrote
 asWritten r = record { number = r .number; start = r .start; length = r .length }

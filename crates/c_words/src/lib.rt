@@ -111,7 +111,7 @@ pub struct WrittenWords {
     pub length: u64,
 }
 
-// A number as a wire type, or that it is none.
+// What a number that a caller gave as a kind is: a wire type, or none.
 pub enum Typed {
     Is(WireType),
     Unknown,
@@ -125,8 +125,8 @@ pub struct SoundingWords {
     pub levels: u64,
 }
 
-// A number as a wire type, if it is one.
-pub fn wire_type(kind: u64) -> Typed
+// A kind's wire type, if it is one.
+pub fn typed_of(kind: u64) -> Typed
     ensures { λ r. ⌜ r ≡ typedOf kind ⌝ }
 {
     match kind {
@@ -313,7 +313,7 @@ pub fn step_words(at: usize, last: u32, k: Step) -> StepWords
 
 // The end, or a refusal: no field, a place and a last tag.
 fn no_field(number: u64, place: usize, tag: u32) -> StepWords
-    ensures { λ r. ⌜ asStep r ≡ record { number = number; found = 0; tag = tag; type = 0; value = 0; length = 0; place = place } ⌝ }
+    ensures { λ r. ⌜ asStep r ≡ record { number = number; found = 0; tag = tag; kind = 0; value = 0; length = 0; place = place } ⌝ }
 {
     StepWords {
         number: number,

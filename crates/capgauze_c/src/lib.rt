@@ -111,7 +111,7 @@ pub extern "C" fn capgauze_decode_key(s: &[u8], at: usize, end: usize, last: u32
 pub extern "C" fn capgauze_encode_key(last: u32, tag: u32, kind: u64, buf: &mut [u8]) -> Number
     ensures { λ r. ⌜ record { told = asNumber r; lent = now (buf .exit) } ≡ keyStored (now (buf .entry)) (typedOf kind) (keyAtFront (now (buf .entry)) last tag) ⌝ }
 {
-    let Typed::Is(wire) = c_words::wire_type(kind) else {
+    let Typed::Is(wire) = c_words::typed_of(kind) else {
         return c_words::put_words(Put::Refused(Refusal::BadRecord));
     };
     c_words::put_words(capgauze::encode_key(last, tag, wire, buf))
@@ -122,7 +122,7 @@ pub extern "C" fn capgauze_encode_key(last: u32, tag: u32, kind: u64, buf: &mut 
 pub extern "C" fn capgauze_prepend_key(last: u32, tag: u32, kind: u64, buf: &mut [u8]) -> Number
     ensures { λ r. ⌜ record { told = asNumber r; lent = now (buf .exit) } ≡ keyStored (now (buf .entry)) (typedOf kind) (keyAtEnd (now (buf .entry)) last tag) ⌝ }
 {
-    let Typed::Is(wire) = c_words::wire_type(kind) else {
+    let Typed::Is(wire) = c_words::typed_of(kind) else {
         return c_words::put_words(Put::Refused(Refusal::BadRecord));
     };
     c_words::put_words(capgauze::prepend_key(last, tag, wire, buf))
@@ -141,7 +141,7 @@ pub extern "C" fn capgauze_key_len(last: u32, tag: u32) -> Number
 pub extern "C" fn capgauze_decode_value(s: &[u8], at: usize, end: usize, kind: u64) -> ValueWords
     ensures { λ r. ⌜ asValue r ≡ valueTyped at (typedOf kind) (λ w. valueTold (decodeValue (now (s .entry)) at end w)) ⌝ }
 {
-    let Typed::Is(wire) = c_words::wire_type(kind) else {
+    let Typed::Is(wire) = c_words::typed_of(kind) else {
         return c_words::value_read_words(ValueRead::Refused(Refusal::BadRecord, at));
     };
     c_words::value_read_words(capgauze::decode_value(s, at, end, wire))
@@ -152,7 +152,7 @@ pub extern "C" fn capgauze_decode_value(s: &[u8], at: usize, end: usize, kind: u
 pub extern "C" fn capgauze_skip_field(s: &[u8], at: usize, end: usize, kind: u64) -> PlaceWords
     ensures { λ r. ⌜ asPlace r ≡ placeTyped at (typedOf kind) (λ w. skippedTold (skipField (now (s .entry)) at end w)) ⌝ }
 {
-    let Typed::Is(wire) = c_words::wire_type(kind) else {
+    let Typed::Is(wire) = c_words::typed_of(kind) else {
         return c_words::skipped_words(Skipped::Refused(Refusal::BadRecord, at));
     };
     c_words::skipped_words(capgauze::skip_field(s, at, end, wire))

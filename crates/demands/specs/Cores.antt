@@ -12,7 +12,7 @@ use lib.Dec.{leb}
 use lib.ListN.{length, take, drop}
 use lib.Seq.{sets, sets-eq}
 use Rattle.wire.specs.Fixed.{fixed}
-use Rattle.wire.specs.Numbers.{typeOf}
+use Rattle.wire.specs.Numbers.{kindOf}
 use Rattle.wire.specs.Varint.{encode}
 use Rattle.wire.specs.Reading.{readMessage}
 use Rattle.place.specs.Place.{Placed, putAt, prependAt, putPart}
@@ -99,12 +99,12 @@ prepend-varint-frame κs a x s p = subst (Before (now (a .0)) (a .1 .0)) (sym p)
 
 pub put-key-frame : Every 1 put-key.ps put-key.r put-key-reads.Post (λ κs a x s. Behind (now (a .0)) (a .1 .0) (record { next = x; buf = now (s .0) }))
 put-key-frame κs a x s p =
-    subst (Behind (now (a .0)) (a .1 .0)) (sym p) (put-behind (now (a .0)) (a .1 .0) (encode (4 * (a .1 .1 .1 .0 - a .1 .1 .0) + typeOf (a .1 .1 .1 .1 .0))))
+    subst (Behind (now (a .0)) (a .1 .0)) (sym p) (put-behind (now (a .0)) (a .1 .0) (encode (4 * (a .1 .1 .1 .0 - a .1 .1 .0) + kindOf (a .1 .1 .1 .1 .0))))
 
 pub prepend-key-frame : Every 1 prepend-key.ps prepend-key.r prepend-key-reads.Post
     (λ κs a x s. Before (now (a .0)) (a .1 .0) (record { next = x; buf = now (s .0) }))
 prepend-key-frame κs a x s p =
-    subst (Before (now (a .0)) (a .1 .0)) (sym p) (put-before (now (a .0)) (a .1 .0) (encode (4 * (a .1 .1 .1 .0 - a .1 .1 .0) + typeOf (a .1 .1 .1 .1 .0))))
+    subst (Before (now (a .0)) (a .1 .0)) (sym p) (put-before (now (a .0)) (a .1 .0) (encode (4 * (a .1 .1 .1 .0 - a .1 .1 .0) + kindOf (a .1 .1 .1 .1 .0))))
 
 -- ---- tables
 

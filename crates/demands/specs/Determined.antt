@@ -92,7 +92,7 @@ pub use Rattle.text_digits.proofs.Only.{put-hex-one as digits-put-hex-one}
 pub use Rattle.text_digits.proofs.Only.{put-decimal-one as digits-put-decimal-one}
 pub use Rattle.text_digits.proofs.Only.{put-hex-bytes-one as digits-put-hex-bytes-one}
 -- lines
-pub use Rattle.text_lines.proofs.Only.{more-one as lines-more-one}
+pub use Rattle.text_lines.proofs.Only.{count-up-one as lines-count-up-one}
 pub use Rattle.text_lines.proofs.Only.{take-line-one as lines-take-line-one}
 -- frames as text
 pub use Rattle.text_frames.proofs.Only.{put-frame-one as frames-put-frame-one}
@@ -106,7 +106,7 @@ pub use Rattle.sounding.proofs.Only.{read-sounding-one as sounding-read-soundin
 -- soundings as text
 pub use Rattle.sounding_text.proofs.Only.{put-sounding-one as columns-put-sounding-one}
 -- the face for C
-pub use Rattle.c_words.proofs.Only.{wire-type-one as c-wire-type-one}
+pub use Rattle.c_words.proofs.Only.{typed-of-one as c-typed-of-one}
 pub use Rattle.c_words.proofs.Only.{put-words-one as c-put-words-one}
 pub use Rattle.c_words.proofs.Only.{varint-words-one as c-varint-words-one}
 pub use Rattle.c_words.proofs.Only.{read-words-one as c-read-words-one}

@@ -10,7 +10,7 @@ use Rattle.wire.specs.Choose.{choose}
 use Rattle.wire.specs.Varint.{Sum, Adds, Stops, sum}
 use Rattle.wire.specs.Numbers.{numberOf}
 use Rattle.wire.specs.Reading.{judged, varintAt, renamed, cappedAt, keyOf, keyAt, within, numberFrom, payloadFrom, valueAt, tagged, fieldOf, fieldAt}
-use Rattle.wire.specs.Reading.{Message, Fields, Refused, more, onward, ended, readsFrom, readMessage}
+use Rattle.wire.specs.Reading.{Message, Fields, Refused, inFront, onward, ended, readsFrom, readMessage}
 use Rattle.wire.specs.declared.Refusal.{Refusal}
 use Rattle.wire.specs.declared.Refusal.the-variants.{Truncated}
 use Rattle.wire.specs.declared.WireType.{WireType}
@@ -116,12 +116,12 @@ field-ok : (s : List ℕ) (e p last : ℕ) → FieldOk (fieldAt s e p last)
 unfolding fieldAt
 field-ok s e p last = field-of-ok s e (keyAt s e p last) (key-ok last (cappedAt s e p) (renamed-ok e p (varintAt s p) (varint-ok s p)))
 
-more-ok : (f : Field) (m : Message) → MessageOk m → MessageOk (more f m)
-more-ok f (Fields fs) h = tt
-more-ok f (Refused r p) h = h
+in-front-ok : (f : Field) (m : Message) → MessageOk m → MessageOk (inFront f m)
+in-front-ok f (Fields fs) h = tt
+in-front-ok f (Refused r p) h = h
 
 onward-ok : (p : ℕ) (o : FieldFound) (go : Field → ℕ → Message) → FieldOk o → ((f : Field) (q : ℕ) → MessageOk (go f q)) → MessageOk (onward p o go)
-onward-ok p (fieldFound.Got f q) go h g = more-ok f (go f q) (g f q)
+onward-ok p (fieldFound.Got f q) go h g = in-front-ok f (go f q) (g f q)
 onward-ok p (fieldFound.Refused r) go h g = h
 
 ended-ok : (e m p : ℕ) → MessageOk (ended e m p)

@@ -11,7 +11,7 @@ use Rattle.wire.specs.Limits.{messageLimit}
 use Rattle.wire.specs.Numbers.{numberOf}
 use Rattle.wire.specs.Varint.{Sum, Adds, Stops}
 use Rattle.wire.specs.Reading.{judged, varintAt, renamed, cappedAt, keyOf, keyAt, within, numberFrom, payloadFrom, valueAt, tagged, fieldOf, fieldAt}
-use Rattle.wire.specs.Reading.{stepOf, stepAt, wireOf, Message, Fields, more, onward, ended, readsFrom, readMessage}
+use Rattle.wire.specs.Reading.{stepOf, stepAt, wireOf, Message, Fields, inFront, onward, ended, readsFrom, readMessage}
 use Rattle.wire.specs.Reading as reading
 use Rattle.wire.specs.Theorem.{refused-fields}
 use Rattle.wire.specs.Skipping.{inSlice, pastNumber, pastPayload, pastAt, repeats, beyond, skipFrom}
@@ -201,14 +201,14 @@ ended-told e m p = go (eqb p e) refl
     go true b = rw b
     go false b = rw b
 
-more-number : (f : Field) (m : Message) → messageNumber (more f m) ≡ messageNumber m
-more-number f (Fields fs) = refl
-more-number f (reading.Refused r p) = refl
+in-front-number : (f : Field) (m : Message) → messageNumber (inFront f m) ≡ messageNumber m
+in-front-number f (Fields fs) = refl
+in-front-number f (reading.Refused r p) = refl
 
 onward-told : (p : ℕ) (x : FieldFound) (go : Field → ℕ → Message) (rules : Field → ℕ → List Rule)
     → ((f : Field) (q : ℕ) → messageNumber (go f q) ≡ firstOf (rules f q))
     → messageNumber (onward p x go) ≡ orElse (fieldNumber x) (firstOf (behindField x rules))
-onward-told p (fieldFound.Got f q) go rules h = more-number f (go f q) ∙ h f q
+onward-told p (fieldFound.Got f q) go rules h = in-front-number f (go f q) ∙ h f q
 onward-told p (fieldFound.Refused r) go rules h = sym (refused-first r _)
 
 fields-told : (k : ℕ) (s : List ℕ) (e m p last : ℕ) → messageNumber (readsFrom k s e m p last) ≡ firstOf (fieldsRules k s e p last)
@@ -234,7 +234,7 @@ one-more : (p : ℕ) (x : FieldFound) (go : Field → ℕ → Message) (seen : F
 one-more p (fieldFound.Refused r) go seen h fs e = refused-fields r p fs e
 one-more p (fieldFound.Got f q) go seen h fs e = on (go f q) refl e
   where
-    on : (m : Message) → go f q ≡ m → more f m ≡ Fields fs → f ∷ seen f q ≡ fs
+    on : (m : Message) → go f q ≡ m → inFront f m ≡ Fields fs → f ∷ seen f q ≡ fs
     on (Fields gs) g x = let y : f ∷ gs ≡ fs = cc in ap (λ (l : List Field). f ∷ l) (h f q gs g) ∙ y
     on (reading.Refused r i) g x = refused-fields r i fs x
 

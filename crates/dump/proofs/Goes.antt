@@ -5,7 +5,7 @@ use mathlib.Core.Bool.{Bool, true, false}
 use mathlib.Core.List.{List, [], _∷_, append-nil}
 use native.Mathlib.Omega.{arith}
 use lib.ListN.{length, drop}
-use Rattle.text_lines.specs.Lines.{more, linesOf, Taking, takeLine}
+use Rattle.text_lines.specs.Lines.{countUp, linesOf, Taking, takeLine}
 use Rattle.text_lines.specs.LineLaws.{moves, Keeps, begun, lines-last}
 use Rattle.text_lines.specs.declared.Taken.{Taken}
 use Rattle.text_lines.specs.declared.Taken.the-variants.{Line, Part}
@@ -75,7 +75,7 @@ module _ {block line₀ bytes₀ table₀ out₀ : List ℕ} {s : State} {line b
   pub go-line : {next k : ℕ} {line′ bytes′ table′ out′ tally tally′ : List ℕ} {counts : Bool} {number′ used′ : ℕ} → frameRoom ≤ length out - st .used
       → _≡_ {A = Taking} (record { answer = Line next k; line = line′ }) (takeLine block (st .at) line (st .chars))
       → Reports out (st .used) (st .number) line′ k bytes table tally counts used′ out′ tally′
-      → number′ ≡ more (st .number)
+      → number′ ≡ countUp (st .number)
       → Same line bytes table out line′ bytes′ table′ out′
       → Going block line₀ bytes₀ table₀ out₀ s line′ bytes′ table′ out′ (record { at = next; chars = 0; number = number′; used = used′ })
   go-line {next} {k} {line′} {bytes′} {table′} {out′} {number′} {used′} h e p n x =
@@ -118,7 +118,7 @@ module _ {line bytes table out : List ℕ} {s : State} (g : Closing line bytes t
   -- a line is left: it is printed
   pub end-line : {number′ used′ : ℕ} {out′ tally tally′ : List ℕ} {counts : Bool} → 1 ≤ s .chars
       → Reports out (s .used) (s .number) line (s .chars) bytes table tally counts used′ out′ tally′
-      → number′ ≡ more (s .number)
+      → number′ ≡ countUp (s .number)
       → length out′ ≡ length out
       → Closes line out s out′ (record { at = s .at; chars = 0; number = number′; used = used′ })
   end-line {out′ = out′} h p n l =

@@ -1,6 +1,6 @@
 -- The number (rule R1) and the values of each case of each answer; what a refusal carries (rules R4, R5, R7 and R8).
 use Prim.Native.Nat.{ℕ}
-use Rattle.wire.specs.Numbers.{numberOf, typeOf}
+use Rattle.wire.specs.Numbers.{numberOf, kindOf}
 use Rattle.wire.specs.Table.{kindWord, valueWord, lengthWord}
 use Rattle.wire.specs.declared.Read.{Read}
 use Rattle.wire.specs.declared.Read.the-variants as read
@@ -57,12 +57,12 @@ keyLenTold (measured.Refused r) = record { number = numberOf r; value = 0 }
 pub record Key : Type 0 where
   pub number : ℕ
   pub tag : ℕ
-  pub type : ℕ
+  pub kind : ℕ
   pub place : ℕ
 
 abbrev pub keyTold : KeyRead → Key
-keyTold (keyRead.Got k q) = record { number = 0; tag = k .tag; type = typeOf (k .wire); place = q }
-keyTold (keyRead.Refused r p last) = record { number = numberOf r; tag = last; type = 0; place = p }
+keyTold (keyRead.Got k q) = record { number = 0; tag = k .tag; kind = kindOf (k .wire); place = q }
+keyTold (keyRead.Refused r p last) = record { number = numberOf r; tag = last; kind = 0; place = p }
 
 -- Rules R5 and T1: a value's two words are a record's
 pub record Value : Type 0 where
@@ -89,16 +89,16 @@ pub record Field : Type 0 where
   pub number : ℕ
   pub found : ℕ
   pub tag : ℕ
-  pub type : ℕ
+  pub kind : ℕ
   pub value : ℕ
   pub length : ℕ
   pub place : ℕ
 
 abbrev pub stepTold : ℕ → ℕ → Step → Field
 stepTold at last (step.Field f q) =
-    record { number = 0; found = 1; tag = f .tag; type = kindWord (f .value); value = valueWord (f .value); length = lengthWord (f .value); place = q }
-stepTold at last step.End = record { number = 0; found = 0; tag = last; type = 0; value = 0; length = 0; place = at }
-stepTold at last (step.Refused r p t) = record { number = numberOf r; found = 0; tag = t; type = 0; value = 0; length = 0; place = p }
+    record { number = 0; found = 1; tag = f .tag; kind = kindWord (f .value); value = valueWord (f .value); length = lengthWord (f .value); place = q }
+stepTold at last step.End = record { number = 0; found = 0; tag = last; kind = 0; value = 0; length = 0; place = at }
+stepTold at last (step.Refused r p t) = record { number = numberOf r; found = 0; tag = t; kind = 0; value = 0; length = 0; place = p }
 
 -- Rule M9: whether there is more: 1 before the end, 0 at it
 abbrev pub moreTold : More → Number
@@ -120,42 +120,42 @@ readTold (read.Refused r p n) = record { number = numberOf r; place = p; count =
 pub record Pick : Type 0 where
   pub number : ℕ
   pub found : ℕ
-  pub type : ℕ
+  pub kind : ℕ
   pub value : ℕ
   pub length : ℕ
 
 abbrev pub pickedTold : Picked → Pick
-pickedTold (picked.Found f) = record { number = 0; found = 1; type = kindWord (f .value); value = valueWord (f .value); length = lengthWord (f .value) }
-pickedTold picked.Absent = record { number = 0; found = 0; type = 0; value = 0; length = 0 }
-pickedTold (picked.Refused r) = record { number = numberOf r; found = 0; type = 0; value = 0; length = 0 }
+pickedTold (picked.Found f) = record { number = 0; found = 1; kind = kindWord (f .value); value = valueWord (f .value); length = lengthWord (f .value) }
+pickedTold picked.Absent = record { number = 0; found = 0; kind = 0; value = 0; length = 0 }
+pickedTold (picked.Refused r) = record { number = numberOf r; found = 0; kind = 0; value = 0; length = 0 }
 
 -- Rule P5: how many there are of a tag, then the same of the one at a number
 pub record Several : Type 0 where
   pub number : ℕ
   pub count : ℕ
   pub found : ℕ
-  pub type : ℕ
+  pub kind : ℕ
   pub value : ℕ
   pub length : ℕ
 
 abbrev pub severalTold : several.Several → Several
-severalTold (severalAs.Found n f) = record { number = 0; count = n; found = 1; type = kindWord (f .value); value = valueWord (f .value); length = lengthWord (f .value) }
-severalTold (severalAs.Absent n) = record { number = 0; count = n; found = 0; type = 0; value = 0; length = 0 }
-severalTold (severalAs.Refused r) = record { number = numberOf r; count = 0; found = 0; type = 0; value = 0; length = 0 }
+severalTold (severalAs.Found n f) = record { number = 0; count = n; found = 1; kind = kindWord (f .value); value = valueWord (f .value); length = lengthWord (f .value) }
+severalTold (severalAs.Absent n) = record { number = 0; count = n; found = 0; kind = 0; value = 0; length = 0 }
+severalTold (severalAs.Refused r) = record { number = numberOf r; count = 0; found = 0; kind = 0; value = 0; length = 0 }
 
 -- Rule P8: the number of keys read, then the same of the only one
 pub record Early : Type 0 where
   pub number : ℕ
   pub keys : ℕ
   pub found : ℕ
-  pub type : ℕ
+  pub kind : ℕ
   pub value : ℕ
   pub length : ℕ
 
 abbrev pub earlyTold : earlyOf.Early → Early
-earlyTold (early.Found f n) = record { number = 0; keys = n; found = 1; type = kindWord (f .value); value = valueWord (f .value); length = lengthWord (f .value) }
-earlyTold (early.Absent n) = record { number = 0; keys = n; found = 0; type = 0; value = 0; length = 0 }
-earlyTold (early.Refused r) = record { number = numberOf r; keys = 0; found = 0; type = 0; value = 0; length = 0 }
+earlyTold (early.Found f n) = record { number = 0; keys = n; found = 1; kind = kindWord (f .value); value = valueWord (f .value); length = lengthWord (f .value) }
+earlyTold (early.Absent n) = record { number = 0; keys = n; found = 0; kind = 0; value = 0; length = 0 }
+earlyTold (early.Refused r) = record { number = numberOf r; keys = 0; found = 0; kind = 0; value = 0; length = 0 }
 
 -- Rules E2, E3, E4 and R7: a message that was written: its start and its length
 pub record Wrote : Type 0 where

@@ -6,7 +6,7 @@ use borrow.Author.Tests.{le-leb, lt-leb}
 use lib.Dec.{leb}
 use lib.ListN.{length}
 use Rattle.wire.specs.Choose.{choose}
-use Rattle.wire.specs.Numbers.{typeOf}
+use Rattle.wire.specs.Numbers.{kindOf}
 use Rattle.wire.specs.Varint.{encode}
 use Rattle.wire.specs.Reading.{keyAt}
 use Rattle.wire.specs.declared.Refusal.the-variants.{OutOfOrder}
@@ -34,7 +34,7 @@ decodeKey s at e last = through (gated (length s) at e) (λ r. keyRead.Refused r
 
 -- Rule K1: a key's bytes
 abbrev pub keyBytes : ℕ → ℕ → WireType → List ℕ
-keyBytes last tag w = encode (4 * (tag - last) + typeOf w)
+keyBytes last tag w = encode (4 * (tag - last) + kindOf w)
 
 unfoldable pub keyAtFront : List ℕ → ℕ → ℕ → WireType → Stored
 keyAtFront b last tag w = choose (leb last tag) (atFront b (keyBytes last tag w)) (record { answer = put.Refused OutOfOrder; buf = b })

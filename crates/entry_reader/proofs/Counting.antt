@@ -87,8 +87,8 @@ moves s p e last f q h =
     (omega (arith, m .0), m .1, x .0)
 
 module _ {s : List ℕ} {a e p last n : ℕ} (c : Counting s a e p last n) where
-  pub more : (f : Field) (q : ℕ) → stepEntry s p e last ≡ step.Field f q → Counting s a e q (f .tag) (n + 1)
-  more f q h =
+  pub one-more : (f : Field) (q : ℕ) → stepEntry s p e last ≡ step.Field f q → Counting s a e q (f .tag) (n + 1)
+  one-more f q h =
       let x = field-of s p e last f q h in
       let o = gated-opens (length s) p e (x .0) in
       record {

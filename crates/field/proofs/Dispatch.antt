@@ -3,10 +3,10 @@ use Prim.Native.Nat.{ℕ, _≤_, _<_}
 use mathlib.Core.Path.{_≡_, ap, _∙_, sym}
 use mathlib.Core.List.{List}
 use native.Mathlib.Omega.{arith}
-use Rattle.wire.specs.Numbers.{typeOf}
+use Rattle.wire.specs.Numbers.{kindOf}
 use Rattle.wire.specs.Reading.{wireOf, valueAt}
 use Rattle.wire.specs.ReadingLaws.{wire-eight}
-use Rattle.wire.specs.Types.{wire-type}
+use Rattle.wire.specs.Types.{wire-kind}
 use Rattle.wire.specs.declared.WireType.{WireType}
 use Rattle.wire.specs.declared.WireType.the-variants as wireType
 use Rattle.wire.specs.declared.ValueFound.{ValueFound}
@@ -24,6 +24,6 @@ of-kind s e q kind r (payload a b h) = h ∙ ap (λ (k : ℕ). valueAt s e q (wi
 of-kind s e q kind r (four a h) = h ∙ ap (λ (k : ℕ). valueAt s e q (wireOf k)) {x = 2} {y = kind} (omega arith)
 of-kind s e q kind r (eight a b h) = h ∙ ap (valueAt s e q) (sym (wire-eight kind (omega (arith, b))))
 
--- a type's number leads to the value of the type
-pub of-wire : (s : List ℕ) (e q kind : ℕ) (w : WireType) (r : ValueFound) → kind ≡ typeOf w → ByKind s e q kind r → r ≡ valueAt s e q w
-of-wire s e q kind w r h d = of-kind s e q kind r d ∙ ap (valueAt s e q) (ap wireOf h ∙ wire-type w)
+-- a kind leads to the value of its wire type
+pub of-wire : (s : List ℕ) (e q kind : ℕ) (w : WireType) (r : ValueFound) → kind ≡ kindOf w → ByKind s e q kind r → r ≡ valueAt s e q w
+of-wire s e q kind w r h d = of-kind s e q kind r d ∙ ap (valueAt s e q) (ap wireOf h ∙ wire-kind w)

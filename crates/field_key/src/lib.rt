@@ -4,7 +4,7 @@ ghost use mathlib.Core.Path.{_≡_};
 ghost use Prim.Native.Nat.{_+_, _-_, _*_, _%_};
 ghost use lib.ListN.{length};
 ghost use Rattle.place.specs.Place.{putAt, prependAt};
-ghost use Rattle.wire.specs.Numbers.{typeOf};
+ghost use Rattle.wire.specs.Numbers.{kindOf};
 ghost use Rattle.wire.specs.Varint.{encode};
 ghost use Rattle.wire.specs.Reading.{wireOf, keyAt};
 use wire::Key;
@@ -27,7 +27,7 @@ pub fn wire_type_of(key: u64) -> WireType
 
 // The number of a wire type.
 pub fn wire_number(wire: WireType) -> u64
-    ensures { λ r. ⌜ r ≡ typeOf wire ⌝ }
+    ensures { λ r. ⌜ r ≡ kindOf wire ⌝ }
 {
     match wire {
         WireType::Varint => 0,
@@ -46,7 +46,7 @@ fn ahead(last: u32, tag: u32) -> u64
 
 // The number that a key is.
 fn key_of(last: u32, tag: u32, wire: WireType) -> u64
-    ensures { λ r. ⌜ r ≡ 4 * (tag - last) + typeOf wire ⌝ }
+    ensures { λ r. ⌜ r ≡ 4 * (tag - last) + kindOf wire ⌝ }
 {
     4 * ahead(last, tag) + wire_number(wire)
 }
@@ -60,14 +60,14 @@ pub fn key_len(last: u32, tag: u32) -> usize
 
 // A key's bytes from a place on, and the place after them; the place given, and nothing written, where they have no room.
 pub fn put_key(buf: &mut [u8], at: usize, last: u32, tag: u32, wire: WireType) -> usize
-    ensures { λ r. ⌜ record { next = r; buf = now (buf .exit) } ≡ putAt (now (buf .entry)) at (encode (4 * (tag - last) + typeOf wire)) ⌝ }
+    ensures { λ r. ⌜ record { next = r; buf = now (buf .exit) } ≡ putAt (now (buf .entry)) at (encode (4 * (tag - last) + kindOf wire)) ⌝ }
 {
     varint_write::put_varint(buf, at, key_of(last, tag, wire))
 }
 
 // A key's bytes up to a place, and the place where they start; the place given, and nothing written, where they have no room.
 pub fn prepend_key(buf: &mut [u8], end: usize, last: u32, tag: u32, wire: WireType) -> usize
-    ensures { λ r. ⌜ record { next = r; buf = now (buf .exit) } ≡ prependAt (now (buf .entry)) end (encode (4 * (tag - last) + typeOf wire)) ⌝ }
+    ensures { λ r. ⌜ record { next = r; buf = now (buf .exit) } ≡ prependAt (now (buf .entry)) end (encode (4 * (tag - last) + kindOf wire)) ⌝ }
 {
     varint_write::prepend_varint(buf, end, key_of(last, tag, wire))
 }

@@ -1,4 +1,4 @@
--- Skipping: one value by the number of its type; where the loop stands, and what a turn does.
+-- Skipping: one value by its kind; where the loop stands, and what a turn does.
 use Prim.Native.Nat.{ℕ, zero, suc, _+_, _-_, _≤_, _<_}
 use mathlib.Core.Path.{_≡_, refl, ap, _∙_, sym}
 use mathlib.Core.Bool.{Bool, true, false}
@@ -17,7 +17,7 @@ use Rattle.wire.specs.declared.VarintFound.the-variants as varintFound
 use Rattle.wire.specs.declared.Reached.the-variants.{To, Refused}
 use Rattle.field_skip.specs.Repeated.{nextKey, differs, again}
 
--- ---- one value, by its type's number
+-- ---- one value, by its kind
 
 module _ (s : List ℕ) (e p kind : ℕ) where
   by : {k : ℕ} → kind ≡ k → pastAt s e p (wireOf kind) ≡ pastAt s e p (wireOf k)
@@ -49,7 +49,7 @@ module _ (s : List ℕ) (e p kind : ℕ) where
 
 -- ---- the loop
 
--- the values still to be passed, from place p with a type's number, are those of the whole
+-- the values still to be passed, from place p with a kind, are those of the whole
 pub record Passing (s : List ℕ) (e at kind₀ p kind : ℕ) : Type 0 where
   pub left : ℕ
   pub enough : length s - p ≤ left

@@ -23,7 +23,7 @@ fn past_bytes(len: usize, at: usize, n: u64) -> Reached
     Reached::To(at + (n as usize))
 }
 
-// A value, by the number of its type. A length too is read as a varint under the end.
+// A value, by its kind. A length too is read as a varint under the end.
 fn past_value(s: &[u8], at: usize, end: usize, kind: u64) -> Reached
     ensures { λ r. ⌜ r ≡ pastAt (now (s .entry)) end at (wireOf kind) ⌝ }
 {

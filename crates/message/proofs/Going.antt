@@ -12,7 +12,7 @@ use Rattle.wire.specs.StepBack.{step-field}
 use Rattle.wire.specs.declared.Refusal.{Refusal}
 use Rattle.wire.specs.declared.Field.{Field}
 use Rattle.wire.specs.declared.Stepped.the-variants as stepped
-use Rattle.message.specs.declared.Reached.the-variants as reached
+use Rattle.message.specs.declared.Walked.the-variants as walkedAs
 use Rattle.message.specs.Walks.{Aim, nothing, wanted, unwanted-exact, unwanted-above, finished, walkFrom, walked}
 use Rattle.message.specs.Walks.{from-refused, from-end, from-other, from-hit, from-noted, from-counted}
 use Rattle.message.proofs.Walking.{positive}
@@ -38,7 +38,7 @@ module _ {s : List ℕ} {at last : ℕ} {a : Aim} {p tag many : ℕ} {found : Fi
   unwound : walked s at last a ≡ walkFrom (suc (w .k - 1)) s a p tag many found
   unwound = w .same ∙ ap (λ (j : ℕ). walkFrom j s a p tag many found) (positive (w .k) (omega (arith, w .fuel)))
 
-  pub going-refused : (r : Refusal) → stepAt s (length s) p tag ≡ stepped.Refused r → walked s at last a ≡ reached.Refused r
+  pub going-refused : (r : Refusal) → stepAt s (length s) p tag ≡ stepped.Refused r → walked s at last a ≡ walkedAs.Refused r
   going-refused r h = unwound ∙ from-refused (w .k - 1) s a p tag many found r h
 
   pub going-end : stepAt s (length s) p tag ≡ stepped.End → walked s at last a ≡ finished a many found
@@ -59,7 +59,7 @@ module _ {s : List ℕ} {at last : ℕ} {a : Aim} {p tag many : ℕ} {found : Fi
     pub going-above : a .want < f .tag → Going s at last a q (f .tag) many found
     going-above n = other (unwanted-above a (f .tag) n)
 
-    pub going-hit : wanted a (f .tag) ≡ true → many ≡ a .number → a .stop ≡ true → walked s at last a ≡ reached.Field f q
+    pub going-hit : wanted a (f .tag) ≡ true → many ≡ a .number → a .stop ≡ true → walked s at last a ≡ walkedAs.Field f q
     going-hit y n t = unwound ∙ from-hit (w .k - 1) s a p tag many found f q h y n t
 
     pub going-on : (x : Field) → wanted a (f .tag) ≡ true → Noted a f many found x → Going s at last a q (f .tag) (many + 1) x

@@ -13,8 +13,8 @@ use Rattle.wire.specs.Reading as reading
 use Rattle.wire.specs.declared.Field.{Field}
 use Rattle.wire.specs.declared.Stepped.{Stepped}
 use Rattle.wire.specs.declared.Stepped.the-variants as stepped
-use Rattle.message.specs.declared.Reached.{Reached}
-use Rattle.message.specs.declared.Reached.the-variants as reached
+use Rattle.message.specs.declared.Walked.{Walked}
+use Rattle.message.specs.declared.Walked.the-variants as walkedAs
 use Rattle.message.specs.declared.Sought.{Sought}
 use Rattle.message.specs.declared.Sought.the-variants as soughtAs
 use Rattle.message.specs.Tags.{ofTag, sought}
@@ -26,13 +26,13 @@ use Rattle.message.proofs.Going.{step-moves}
 
 -- ---- to the end, for the fields of one tag
 
-abbrev pub soughtBy : Reached → Sought
-soughtBy (reached.Field f n) = soughtAs.Found f n
-soughtBy (reached.End n) = soughtAs.Absent n
-soughtBy (reached.Refused r) = soughtAs.Refused r
+abbrev pub soughtBy : Walked → Sought
+soughtBy (walkedAs.Field f n) = soughtAs.Found f n
+soughtBy (walkedAs.End n) = soughtAs.Absent n
+soughtBy (walkedAs.Refused r) = soughtAs.Refused r
 
 module _ (s : List ℕ) (t n : ℕ) where
-  abbrev Told : Reached → Type 0
+  abbrev Told : Walked → Type 0
   Told r = soughtBy r ≡ sought t n (readMessage s 0 (length s))
 
   -- a walk of at most k steps, behind fields that were seen
@@ -119,10 +119,10 @@ pub record Met (s : List ℕ) (a : Aim) (p : ℕ) (fs : List Field) (f : Field) 
   pub step : stepAt s (length s) at last ≡ stepped.Field f q
 
 -- what the answer says of a walk from place p on, behind the fields fs
-abbrev pub Stops : List ℕ → Aim → ℕ → List Field → Reached → Type 0
-Stops s a p fs (reached.Refused r) = (at : ℕ) × (readMessage s 0 (length s) ≡ reading.Refused r at)
-Stops s a p fs (reached.End n) = Over s a fs
-Stops s a p fs (reached.Field f q) = Met s a p fs f q
+abbrev pub Stops : List ℕ → Aim → ℕ → List Field → Walked → Type 0
+Stops s a p fs (walkedAs.Refused r) = (at : ℕ) × (readMessage s 0 (length s) ≡ reading.Refused r at)
+Stops s a p fs (walkedAs.End n) = Over s a fs
+Stops s a p fs (walkedAs.Field f q) = Met s a p fs f q
 
 module _ (s : List ℕ) (t : ℕ) (exact : Bool) where
   -- a walk of at most k steps
@@ -132,12 +132,12 @@ module _ (s : List ℕ) (t : ℕ) (exact : Bool) where
       → Stops s (until t exact) p fs (walkFrom k s (until t exact) p tag 0 found)
 
   -- from behind an unwanted field back to before it
-  back : (p q : ℕ) (fs : List Field) (f : Field) (r : Reached) → wanted (until t exact) (f .tag) ≡ false → p ≤ q
+  back : (p q : ℕ) (fs : List Field) (f : Field) (r : Walked) → wanted (until t exact) (f .tag) ≡ false → p ≤ q
       → Stops s (until t exact) q (fs ++ f ∷ []) r → Stops s (until t exact) p fs r
-  back p q fs f (reached.Refused r) n l x = x
-  back p q fs f (reached.End i) n l x =
+  back p q fs f (walkedAs.Refused r) n l x = x
+  back p q fs f (walkedAs.End i) n l x =
       record { gs = f ∷ x .gs; none = (n, x .none); whole = x .whole ∙ ap Fields (append-assoc fs (f ∷ []) (x .gs)) }
-  back p q fs f (reached.Field g i) n l x =
+  back p q fs f (walkedAs.Field g i) n l x =
       record {
         m = x .m;
         at = x .at;
@@ -176,6 +176,6 @@ module _ (s : List ℕ) (t : ℕ) (exact : Bool) where
   untils (suc k) m p tag fs found l w = untils-more k (untils k) m p tag fs found l w
 
   -- from any place of a walk
-  pub walk-until : {m p tag : ℕ} {fs : List Field} {r : Reached} → Walk s 0 (length s) m p tag fs → walked s p tag (until t exact) ≡ r
+  pub walk-until : {m p tag : ℕ} {fs : List Field} {r : Walked} → Walk s 0 (length s) m p tag fs → walked s p tag (until t exact) ≡ r
       → Stops s (until t exact) p fs r
   walk-until {m} {p} {tag} {fs} w e = rw e at (untils (suc (length s)) m p tag fs nothing (omega arith) w)

@@ -4,7 +4,7 @@ use mathlib.Core.Path.{_≡_, refl, ap, _∙_, sym}
 use mathlib.Core.List.{List, [], _∷_, _++_, append-assoc, append-nil}
 use native.Mathlib.Omega.{arith}
 use lib.ListN.{length, length-append}
-use Rattle.wire.specs.Reading.{fieldAt, stepAt, Message, Fields, Refused, more, readsFrom, readMessage}
+use Rattle.wire.specs.Reading.{fieldAt, stepAt, Message, Fields, Refused, inFront, readsFrom, readMessage}
 use Rattle.wire.specs.ReadingLaws.{field-moves}
 use Rattle.wire.specs.StepBack.{way, Steps, field, refused, end, past, steps, step-field, step-end}
 use Rattle.wire.specs.Theorem.{turn-field, turn-refused, turn-end, turn-past}
@@ -23,9 +23,9 @@ ahead-none : (m : Message) → m ≡ ahead [] m
 ahead-none (Fields gs) = refl
 ahead-none (Refused r p) = refl
 
-ahead-more : (fs : List Field) (f : Field) (m : Message) → ahead fs (more f m) ≡ ahead (fs ++ f ∷ []) m
-ahead-more fs f (Fields gs) = ap Fields (sym (append-assoc fs (f ∷ []) gs))
-ahead-more fs f (Refused r p) = refl
+ahead-in-front : (fs : List Field) (f : Field) (m : Message) → ahead fs (inFront f m) ≡ ahead (fs ++ f ∷ []) m
+ahead-in-front fs f (Fields gs) = ap Fields (sym (append-assoc fs (f ∷ []) gs))
+ahead-in-front fs f (Refused r p) = refl
 
 -- fs was read from start on; the last of them starts at m and has the tag last; the next place is p
 pub record Walk (s : List ℕ) (start e m p last : ℕ) (fs : List Field) : Type 0 where
@@ -53,7 +53,7 @@ module _ {s : List ℕ} {start e m p last : ℕ} {fs : List Field} (w : Walk s s
         k = w .k - 1;
         fuel = omega (arith, w .fuel, v .0);
         counted = omega (arith, w .counted, v .0, length-append fs (f ∷ []));
-        same = unwound a ∙ ap (ahead fs) (turn-field s e m p last (w .k - 1) f q a h) ∙ ahead-more fs f (readsFrom (w .k - 1) s e p q (f .tag));
+        same = unwound a ∙ ap (ahead fs) (turn-field s e m p last (w .k - 1) f q a h) ∙ ahead-in-front fs f (readsFrom (w .k - 1) s e p q (f .tag));
       }
 
   pub walk-refused : p < e → (r : Refusal) → fieldAt s e p last ≡ fieldFound.Refused r → readMessage s start e ≡ Refused r p

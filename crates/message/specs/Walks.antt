@@ -14,8 +14,8 @@ use Rattle.wire.specs.declared.Value.the-variants as val
 use Rattle.wire.specs.declared.Field.{Field}
 use Rattle.wire.specs.declared.Stepped.{Stepped}
 use Rattle.wire.specs.declared.Stepped.the-variants as stepped
-use Rattle.message.specs.declared.Reached.{Reached}
-use Rattle.message.specs.declared.Reached.the-variants as reached
+use Rattle.message.specs.declared.Walked.{Walked}
+use Rattle.message.specs.declared.Walked.the-variants as walkedAs
 
 -- the fields of a tag, or, if not exact, of that tag and all below it; of these the one at a number, where the walk stops, or which it notes
 pub record Aim : Type 0 where
@@ -36,27 +36,27 @@ abbrev pub wanted : Aim → ℕ → Bool
 wanted a t = choose (a .exact) (eqb t (a .want)) (leb t (a .want))
 
 -- at the end: the field that was noted, if there were enough
-unfoldable pub finished : Aim → ℕ → Field → Reached
-finished a many found = choose (ltb (a .number) many) (reached.Field found many) (reached.End many)
+unfoldable pub finished : Aim → ℕ → Field → Walked
+finished a many found = choose (ltb (a .number) many) (walkedAs.Field found many) (walkedAs.End many)
 
 -- at the wanted field of the number
-abbrev pub hit : Aim → Field → ℕ → Reached → Reached
-hit a f q on = choose (a .stop) (reached.Field f q) on
+abbrev pub hit : Aim → Field → ℕ → Walked → Walked
+hit a f q on = choose (a .stop) (walkedAs.Field f q) on
 
 -- at a wanted field, where many were wanted before it
-unfoldable pub took : Aim → Field → ℕ → ℕ → Field → (ℕ → Field → Reached) → Reached
+unfoldable pub took : Aim → Field → ℕ → ℕ → Field → (ℕ → Field → Walked) → Walked
 took a f q many found go = choose (eqb many (a .number)) (hit a f q (go (many + 1) f)) (go (many + 1) found)
 
-unfoldable pub passed : Aim → Field → ℕ → ℕ → Field → (ℕ → Field → Reached) → Reached
+unfoldable pub passed : Aim → Field → ℕ → ℕ → Field → (ℕ → Field → Walked) → Walked
 passed a f q many found go = choose (wanted a (f .tag)) (took a f q many found go) (go many found)
 
-unfoldable pub walkOn : Aim → Stepped → ℕ → Field → (Field → ℕ → ℕ → Field → Reached) → Reached
+unfoldable pub walkOn : Aim → Stepped → ℕ → Field → (Field → ℕ → ℕ → Field → Walked) → Walked
 walkOn a (stepped.Field f q) many found go = passed a f q many found (go f q)
 walkOn a stepped.End many found go = finished a many found
-walkOn a (stepped.Refused r) many found go = reached.Refused r
+walkOn a (stepped.Refused r) many found go = walkedAs.Refused r
 
 -- from place p behind a field of a tag, in at most k steps; many were wanted before it, and one was noted
-unfoldable pub walkFrom : ℕ → List ℕ → Aim → ℕ → ℕ → ℕ → Field → Reached
+unfoldable pub walkFrom : ℕ → List ℕ → Aim → ℕ → ℕ → ℕ → Field → Walked
 walkFrom zero s a p tag many found = finished a many found
 walkFrom (suc k) s a p tag many found = walkOn a (stepAt s (length s) p tag) many found (λ f q n g. walkFrom k s a q (f .tag) n g)
 
@@ -65,22 +65,22 @@ abbrev pub nothing : Field
 nothing = record { tag = 0; value = val.Varint 0 }
 
 -- every step takes a byte at least
-abbrev pub walked : List ℕ → ℕ → ℕ → Aim → Reached
+abbrev pub walked : List ℕ → ℕ → ℕ → Aim → Walked
 walked s at last a = walkFrom (suc (length s)) s a at last 0 nothing
 
 -- ---- case by case
 
 module _ (a : Aim) (many : ℕ) (found : Field) where
-  pub finished-found : a .number < many → finished a many found ≡ reached.Field found many
+  pub finished-found : a .number < many → finished a many found ≡ walkedAs.Field found many
   unfolding finished
   finished-found h = rw (lt-ltb (a .number) many h)
 
-  pub finished-end : many ≤ a .number → finished a many found ≡ reached.End many
+  pub finished-end : many ≤ a .number → finished a many found ≡ walkedAs.End many
   unfolding finished
   finished-end h = rw (le-ltb (a .number) many h)
 
 module _ (k : ℕ) (s : List ℕ) (a : Aim) (p tag many : ℕ) (found : Field) where
-  pub from-refused : (r : Refusal) → stepAt s (length s) p tag ≡ stepped.Refused r → walkFrom (suc k) s a p tag many found ≡ reached.Refused r
+  pub from-refused : (r : Refusal) → stepAt s (length s) p tag ≡ stepped.Refused r → walkFrom (suc k) s a p tag many found ≡ walkedAs.Refused r
   unfolding walkFrom walkOn
   from-refused r h = rw h
 
@@ -93,7 +93,7 @@ module _ (k : ℕ) (s : List ℕ) (a : Aim) (p tag many : ℕ) (found : Field) w
     unfolding walkFrom walkOn passed
     from-other w = rw (h, w)
 
-    pub from-hit : wanted a (f .tag) ≡ true → many ≡ a .number → a .stop ≡ true → walkFrom (suc k) s a p tag many found ≡ reached.Field f q
+    pub from-hit : wanted a (f .tag) ≡ true → many ≡ a .number → a .stop ≡ true → walkFrom (suc k) s a p tag many found ≡ walkedAs.Field f q
     unfolding walkFrom walkOn passed took
     from-hit w n t = rw (h, w, eq-eqb many (a .number) n, t)
 

@@ -27,7 +27,7 @@ pub enum Sought {
 
 // Where a walk stopped: the field that it looked for, with the place after it, or, if it went on to the end, with how many were wanted; else
 // how many were wanted, which were too few; or a refusal.
-pub enum Reached {
+pub enum Walked {
     Field(Field, usize),
     End(usize),
     Refused(Refusal),
@@ -72,7 +72,7 @@ pub fn walk(
     exact: bool,
     number: usize,
     stop: bool,
-) -> Reached
+) -> Walked
     ensures { λ r. ⌜ r ≡ walked (now (s .entry)) at last (record { want = want; exact = exact; number = number; stop = stop }) ⌝ }
 {
     let mut p = at;
@@ -85,7 +85,7 @@ pub fn walk(
     loop {
         match field::next_field(s, p, s.len(), tag) {
             Stepped::Refused(r) => {
-                return Reached::Refused(r);
+                return Walked::Refused(r);
             }
             Stepped::End => {
                 break;
@@ -103,7 +103,7 @@ pub fn walk(
                 }
                 if many == number {
                     if stop {
-                        return Reached::Field(f, next);
+                        return Walked::Field(f, next);
                     }
                     found = f;
                 }
@@ -112,9 +112,9 @@ pub fn walk(
         }
     }
     if number < many {
-        return Reached::Field(found, many);
+        return Walked::Field(found, many);
     }
-    Reached::End(many)
+    Walked::End(many)
 }
 
 // The field of a tag at a number, counted from 0, of a slice that is a message and is read whole.
@@ -122,8 +122,8 @@ pub fn find_tag(s: &[u8], tag: u32, number: usize) -> Sought
     ensures { λ r. ⌜ r ≡ sought tag number (readMessage (now (s .entry)) 0 (length (now (s .entry)))) ⌝ }
 {
     match walk(s, 0, 0, tag, true, number, false) {
-        Reached::Refused(r) => Sought::Refused(r),
-        Reached::End(n) => Sought::Absent(n),
-        Reached::Field(f, n) => Sought::Found(f, n),
+        Walked::Refused(r) => Sought::Refused(r),
+        Walked::End(n) => Sought::Absent(n),
+        Walked::Field(f, n) => Sought::Found(f, n),
     }
 }

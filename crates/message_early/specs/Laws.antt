@@ -7,10 +7,10 @@ use native.Mathlib.Omega.{arith}
 use borrow.Author.Tests.{lt-ltb, le-ltb, ltb-true, ltb-false, ne-eqb}
 use lib.Dec.{ltb, eqb}
 use lib.ListN.{length, take}
-use Rattle.wire.specs.Reading.{keyAt, valueAt, tagged, fieldOf, fieldAt, Fields, more, readsFrom, readMessage}
+use Rattle.wire.specs.Reading.{keyAt, valueAt, tagged, fieldOf, fieldAt, Fields, inFront, readsFrom, readMessage}
 use Rattle.wire.specs.Reading as reading
 use Rattle.wire.specs.ReadingLaws.{field-moves}
-use Rattle.wire.specs.Theorem.{turn-field, turn-refused, turn-end, Stands, none, some, stands, refused-fields, more-fields}
+use Rattle.wire.specs.Theorem.{turn-field, turn-refused, turn-end, Stands, none, some, stands, refused-fields, in-front-fields}
 use Rattle.message_early.specs.Cut.{field-cut}
 use Rattle.wire.specs.declared.Refusal.{Refusal}
 use Rattle.wire.specs.declared.Refusal.the-variants.{Truncated}
@@ -156,8 +156,8 @@ module _ (t : ℕ) (s : List ℕ) where
           small = ltb-false t (f .tag) (sym (field-tag t s (length s) p last f q e) ∙ low)
 
           next : Meets k t s p q (f .tag) → Meets (suc k) t s m p last
-          next (whole fs g u h) = whole (f ∷ fs) (rw (x, z, g)) (small, u) (turn-field s (length s) m p last k f q (ltb-true p (length s) x) e ∙ ap (more f) h)
-          next (refused r i g h) = refused r i (rw (x, z, g)) (turn-field s (length s) m p last k f q (ltb-true p (length s) x) e ∙ ap (more f) h)
+          next (whole fs g u h) = whole (f ∷ fs) (rw (x, z, g)) (small, u) (turn-field s (length s) m p last k f q (ltb-true p (length s) x) e ∙ ap (inFront f) h)
+          next (refused r i g h) = refused r i (rw (x, z, g)) (turn-field s (length s) m p last k f q (ltb-true p (length s) x) e ∙ ap (inFront f) h)
           next (cut fs h g u i c b d o) =
               let v = field-moves s (length s) p last f q e in
               let l = ltb-true p (length s) x in
@@ -165,8 +165,8 @@ module _ (t : ℕ) (s : List ℕ) where
               (λ j n w. let y : j ≡ suc (j - 1) = omega (arith, v .0) in
               ap (λ (u : ℕ). readsFrom u (take h s) h n p last) y
               ∙ turn-field (take h s) h n p last (j - 1) f q (omega (arith, v .0)) (field-cut s h (omega arith) (length s) p last f q e i)
-              ∙ ap (more f) (d (j - 1) p (omega (arith, v .0))))
-              (λ gs r. let y = more-fields f (readsFrom k s (length s) p q (f .tag)) gs (sym (turn-field s (length s) m p last k f q l e) ∙ r) in
+              ∙ ap (inFront f) (d (j - 1) p (omega (arith, v .0))))
+              (λ gs r. let y = in-front-fields f (readsFrom k s (length s) p q (f .tag)) gs (sym (turn-field s (length s) m p last k f q l e) ∙ r) in
               rw (y .2, o (y .0) (y .1)))
 
 -- THE SAME FROM THE FRONT

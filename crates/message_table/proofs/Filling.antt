@@ -7,7 +7,7 @@ use lib.ListN.{length, drop}
 use lib.Seq.{sets, sets-eq, length-sets}
 use Rattle.wire.specs.Limits.{recordWords}
 use Rattle.wire.specs.Reading.{fieldAt, varintAt, valueAt, wireOf, Fields, readsFrom, readMessage}
-use Rattle.wire.specs.ReadingLaws.{field-moves, field-found, Found, type-wire}
+use Rattle.wire.specs.ReadingLaws.{field-moves, field-found, Found, kind-wire}
 use Rattle.wire.specs.Theorem.{turn-ended, Stands, none, some, stands, ended-fields}
 use Rattle.wire.specs.Table.{kindWord, words, records, length-records}
 use Rattle.wire.specs.declared.Field.{Field}
@@ -117,7 +117,7 @@ module _ {s : List ℕ} {e : ℕ} {goal : List ℕ} {p last i : ℕ} {t : List �
     small = omega (arith, tag, found .key .small)
 
     kind : key % 4 ≡ kindWord (h .field .value)
-    kind = sym (value-kind s e at (wireOf (key % 4)) (h .field .value) (h .next) there ∙ type-wire (key % 4) (omega arith))
+    kind = sym (value-kind s e at (wireOf (key % 4)) (h .field .value) (h .next) there ∙ kind-wire (key % 4) (omega arith))
 
     module _ {value size next : ℕ} (w : Worded s at (key % 4) value size next) where
       pub further : (p < next) × (next ≤ length s)

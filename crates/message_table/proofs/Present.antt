@@ -9,7 +9,7 @@ use lib.Dec.{ltb, leb}
 use lib.ListN.{length, take, drop, getD}
 use Rattle.varint_read.proofs.Reading.{Passed, stands, stop, ninth-over, two-bytes}
 use Rattle.wire.specs.Fixed.{number}
-use Rattle.wire.specs.Numbers.{typeOf}
+use Rattle.wire.specs.Numbers.{kindOf}
 use Rattle.wire.specs.Reading.{varintAt, cappedAt, valueAt, wireOf}
 use Rattle.wire.specs.ReadingLaws.{varint-moves, renamed-got, number-got, payload-got, within-got, wire-eight}
 use Rattle.wire.specs.Table.{kindWord, valueWord, lengthWord}
@@ -58,7 +58,7 @@ same-varint s at v q w r a b = let x : Got v q ≡ Got w r = sym a ∙ b in (cc,
 -- ---- values
 
 -- the type word of a value is its wire type's number
-pub value-kind : (s : List ℕ) (e p : ℕ) (w : WireType) (v : Value) (q : ℕ) → valueAt s e p w ≡ valueFound.Got v q → kindWord v ≡ typeOf w
+pub value-kind : (s : List ℕ) (e p : ℕ) (w : WireType) (v : Value) (q : ℕ) → valueAt s e p w ≡ valueFound.Got v q → kindWord v ≡ kindOf w
 value-kind s e p wireType.Varint v q h = ap kindWord (number-got (cappedAt s e p) v q h .2)
 value-kind s e p wireType.LengthDelimited v q h = ap kindWord (payload-got s e (varintAt s p) v q h .3)
 value-kind s e p wireType.ThirtyTwoBit v q h = ap kindWord (within-got s e (p + 4) _ v q h .0)
@@ -77,7 +77,7 @@ varinted-of s at (suc zero) w h =
     let x = payload-got s (w .end) (varintAt s at) (w .value) (w .next) (w .read) in record { value = x .0; next = x .1; read = x .2 }
 varinted-of s at (suc (suc k)) w h = absurd (omega arith)
 
--- the words of each type, and how far the slice goes
+-- the words of each kind, and how far the slice goes
 module _ (s : List ℕ) (at kind : ℕ) where
   of-wire : (w : WireType) → wireOf kind ≡ w → (e : ℕ) (v : Value) (q : ℕ) → valueAt s e at (wireOf kind) ≡ valueFound.Got v q
       → valueAt s e at w ≡ valueFound.Got v q

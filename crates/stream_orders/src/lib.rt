@@ -121,6 +121,6 @@ pub fn count_one(tally: &mut [usize], verdict: usize)
     ensures { λ r. ⌜ now (tally .exit) ≡ counted (now (tally .entry)) verdict ⌝ }
 {
     if verdict < tally.len() {
-        tally[verdict] = text_lines::more(tally[verdict]);
+        tally[verdict] = text_lines::count_up(tally[verdict]);
     }
 }

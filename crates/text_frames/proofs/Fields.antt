@@ -8,7 +8,7 @@ use lib.ListN.{length, take, drop, getD, length-append, drop-of-length-le}
 use lib.Seq.{drop-cons, getD-drop}
 use Rattle.wire.specs.Limits.{recordWords}
 use Rattle.wire.specs.Fixed.{fixed}
-use Rattle.wire.specs.Written.{Item, type}
+use Rattle.wire.specs.Written.{Item, contentKind}
 use Rattle.wire.specs.Places.{shown, itemOf, items}
 use Rattle.wire.specs.Table.{kindWord, valueOf, recordOf, records, recordAt, fieldIn, fieldsFrom, value-words, length-records, fields-records}
 use Rattle.wire.specs.declared.Value.{Value}
@@ -87,11 +87,11 @@ line-start {out} {at} {head} {s} {r} l =
 
 -- ---- the records of fields, in a table
 
-kind-type : (s : List ℕ) (v : Value) → kindWord v ≡ type (shown s v)
-kind-type s (val.Varint v) = refl
-kind-type s (val.LengthDelimited p n) = refl
-kind-type s (val.ThirtyTwoBit v) = refl
-kind-type s (val.SixtyFourBit v) = refl
+kind-content : (s : List ℕ) (v : Value) → kindWord v ≡ contentKind (shown s v)
+kind-content s (val.Varint v) = refl
+kind-content s (val.LengthDelimited p n) = refl
+kind-content s (val.ThirtyTwoBit v) = refl
+kind-content s (val.SixtyFourBit v) = refl
 
 records-drop : (fs : List Field) (t : List ℕ) (i : ℕ) → i ≤ length fs → drop (recordWords * i) (records fs ++ t) ≡ records (drop i fs) ++ t
 records-drop fs t zero h = refl
@@ -181,7 +181,7 @@ module _ {out : List ℕ} {at : ℕ} {head s table : List ℕ} {count : ℕ} {bu
         record {
           room = has-room (fieldText head (itemOf s (fieldIn r))) (fieldsText head (items s (next .rest))) next-put;
           inside = subst (Inside s) (sym (next .is)) (next-inside .0);
-          kind = next .kind ∙ kind-type s (next .field .value) ∙ ap (λ (f : Field). type (shown s (f .value))) (sym (next .is));
+          kind = next .kind ∙ kind-content s (next .field .value) ∙ ap (λ (f : Field). contentKind (shown s (f .value))) (sym (next .is));
         }
 
     pub list-more : {n : ℕ} {c : List ℕ} → _≡_ {A = Placed} (record { next = n; buf = c }) (putAt buf p (fieldText head (itemOf s (fieldIn r))))

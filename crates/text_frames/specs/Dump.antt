@@ -2,18 +2,18 @@
 use Prim.Native.Nat.{ℕ}
 use mathlib.Core.Path.{_≡_}
 use mathlib.Core.List.{List, [], _∷_, _++_, append-nil}
-use Rattle.text_lines.specs.Lines.{more, linesOf}
+use Rattle.text_lines.specs.Lines.{countUp, linesOf}
 use Rattle.text_frames.specs.Text.{printed}
 
 -- each line with its number
 abbrev pub printedFrom : ℕ → List (List ℕ) → List ℕ
 printedFrom n [] = []
-printedFrom n (l ∷ ls) = printed n l ++ printedFrom (more n) ls
+printedFrom n (l ∷ ls) = printed n l ++ printedFrom (countUp n) ls
 
 -- the number behind the last line's
 abbrev pub numberAfter : ℕ → List (List ℕ) → ℕ
 numberAfter n [] = n
-numberAfter n (l ∷ ls) = numberAfter (more n) ls
+numberAfter n (l ∷ ls) = numberAfter (countUp n) ls
 
 -- a file's end ends its last line; the numbers go on in the next file
 abbrev pub dumpedFrom : ℕ → List (List ℕ) → List ℕ

@@ -6,7 +6,7 @@ use native.Mathlib.Omega.{arith}
 use lib.ListN.{length, drop, length-append, drop-of-length-le}
 use lib.Seq.{sets, drop-drop, drop-append-add}
 use Rattle.place.specs.Place.{put-behind}
-use Rattle.text_lines.specs.Lines.{more, linesOf, Taking, takeLine}
+use Rattle.text_lines.specs.Lines.{countUp, linesOf, Taking, takeLine}
 use Rattle.text_lines.specs.LineLaws.{Whole, whole, ended, begun, lines-whole, lines-ended, lines-last, Keeps, keeps-none, whole-keeps, ended-keeps}
 use Rattle.text_lines.specs.declared.Taken.the-variants.{Line, Part}
 use Rattle.text_frames.specs.Text.{printed}
@@ -67,7 +67,7 @@ module _ {block out₀ : List ℕ} {used₀ n₀ : ℕ} {ks₀ rest₀ line : Li
       → _≡_ {A = Taking} (record { answer = Line next k; line = line′ }) (takeLine block at line chars)
       → {used′ : ℕ} {out′ bytes′ table′ : List ℕ}
       → _≡_ {A = Printing} (record { next = used′; out = out′; bytes = bytes′; table = table′ }) (printFrame out used n line′ k bytes table)
-      → Filled block out₀ used₀ n₀ ks₀ rest₀ line′ 0 (more n) next out′ used′
+      → Filled block out₀ used₀ n₀ ks₀ rest₀ line′ 0 (countUp n) next out′ used′
   fill-line {next} {k} {line′} {bytes} {table} y h e {used′} {out′} p =
       let x = whole (drop at block) at line chars next k line′ e in
       let w = whole-keeps x (f .keeps) in
@@ -129,7 +129,7 @@ pub data Dumps : ℕ → List ℕ → List ℕ → List (List ℕ) → List (Lis
   nextBlock : {n : ℕ} {ks b : List ℕ} {later : List (List ℕ)} {files : List (List (List ℕ))} {texts : List ℕ}
       → Dumps n ks b later files texts → Dumps n ks [] (b ∷ later) files texts
   lastLine : {n : ℕ} {ks : List ℕ} {files : List (List (List ℕ))} {texts : List ℕ} → 1 ≤ length ks
-      → Dumps (more n) [] [] [] files texts → Dumps n ks [] [] files (printed n ks ++ texts)
+      → Dumps (countUp n) [] [] [] files texts → Dumps n ks [] [] files (printed n ks ++ texts)
   nextFile : {n : ℕ} {file : List (List ℕ)} {files : List (List (List ℕ))} {texts : List ℕ} → Dumps n [] [] file files texts
       → Dumps n [] [] [] (file ∷ files) texts
   theEnd : {n : ℕ} → Dumps n [] [] [] [] []

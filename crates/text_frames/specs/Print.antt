@@ -9,7 +9,7 @@ use lib.Seq.{sets}
 use Rattle.wire.specs.Choose.{choose}
 use Rattle.wire.specs.Numbers.{numberOf}
 use Rattle.wire.specs.Places.{shown, itemOf, items}
-use Rattle.wire.specs.Written.{type}
+use Rattle.wire.specs.Written.{contentKind}
 use Rattle.wire.specs.Table.{fieldIn, records, fieldsFrom}
 use Rattle.wire.specs.declared.Field.{Field}
 use Rattle.wire.specs.declared.Read.{Read}
@@ -80,11 +80,11 @@ module _ (out : List ℕ) (at n : ℕ) (line : List ℕ) (chars : ℕ) (bytes ta
 abbrev pub Roomy : List ℕ → ℕ → List ℕ → Type 0
 Roomy b at xs = at + length xs ≤ length b
 
--- there is room for a field's line, or for its value; its payload lies inside the message, and its kind is its type
+-- there is room for a field's line, or for its value; its payload lies inside the message, and its kind is its content's
 pub record Lined (out : List ℕ) (at : ℕ) (head s : List ℕ) (r : Record) : Type 0 where
   pub room : Roomy out at (fieldText head (itemOf s (fieldIn r)))
   pub inside : Inside s (fieldIn r)
-  pub kind : r .kind ≡ type (shown s (fieldIn r .value))
+  pub kind : r .kind ≡ contentKind (shown s (fieldIn r .value))
 
 pub record Valued (out : List ℕ) (at : ℕ) (s : List ℕ) (r : Record) : Type 0 where
   pub room : Roomy out at (valueText (shown s (fieldIn r .value)))

@@ -8,10 +8,10 @@ use borrow.Author.Tests.{ltb-true, ltb-false}
 use lib.Dec.{ltb}
 use lib.ListN.{length, take, drop, length-append, length-take}
 use Rattle.wire.specs.Fixed.{fixed, length-fixed}
-use Rattle.wire.specs.Written.{Item, type}
+use Rattle.wire.specs.Written.{Item, contentKind}
 use Rattle.wire.specs.Places.{shown, itemOf, items}
 use Rattle.wire.specs.Reading.{cappedAt, varintAt, valueAt, fieldAt, Fields, readsFrom, readMessage}
-use Rattle.wire.specs.ReadingLaws.{varint-moves, number-got, payload-got, within-got, value-moves, type-small, field-found, field-moves}
+use Rattle.wire.specs.ReadingLaws.{varint-moves, number-got, payload-got, within-got, value-moves, content-kind-below, field-found, field-moves}
 use Rattle.wire.specs.Theorem.{Stands, none, some, ended-fields, stands}
 use Rattle.wire.specs.declared.WireType.{WireType}
 use Rattle.wire.specs.declared.WireType.the-variants as wireType
@@ -70,7 +70,7 @@ told-two n word a b =
 field-size : (n : ℕ) (i : Item) → length (fieldText (headed n wordF) i) ≤ 47 + length (valueText (i .content))
 unfolding fieldText
 field-size n i =
-    let t = type (i .content) in
+    let t = contentKind (i .content) in
     let v = valueText (i .content) in
     let rest = 32 ∷ v ++ 10 ∷ [] in
     omega (
@@ -81,7 +81,7 @@ field-size n i =
       length-append v (10 ∷ []),
       decimal-few n,
       decimal-few (i .tag),
-      digit-one t (omega (arith, type-small (i .content))),
+      digit-one t (omega (arith, content-kind-below (i .content))),
     )
 
 -- ---- the value of a field that was read from place p up to q: its text is not long, and a payload lies inside the slice

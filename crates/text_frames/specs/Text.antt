@@ -6,7 +6,7 @@ use lib.ListN.{length}
 use Rattle.wire.specs.Choose.{choose}
 use Rattle.wire.specs.Numbers.{numberOf}
 use Rattle.wire.specs.Fixed.{fixed}
-use Rattle.wire.specs.Written.{Content, Number, Payload, Four, Eight, Item, type}
+use Rattle.wire.specs.Written.{Content, Number, Payload, Four, Eight, Item, contentKind}
 use Rattle.wire.specs.Places.{items}
 use Rattle.wire.specs.Reading.{Message, Fields, Refused, readMessage}
 use Rattle.text_digits.specs.Digits.{digits, decimal, hexed}
@@ -56,7 +56,7 @@ valueText (Eight n) = hexed (fixed 8 n)
 
 -- Rule D5: a field after its line's head: tag, type and value
 unfoldable pub fieldText : List ℕ → Item → List ℕ
-fieldText head i = head ++ spaced (i .tag ∷ type (i .content) ∷ []) (32 ∷ valueText (i .content) ++ 10 ∷ [])
+fieldText head i = head ++ spaced (i .tag ∷ contentKind (i .content) ∷ []) (32 ∷ valueText (i .content) ++ 10 ∷ [])
 
 abbrev pub fieldsText : List ℕ → List Item → List ℕ
 fieldsText head [] = []

@@ -10,7 +10,7 @@ use lib.ListN.{length, take, drop, set, getD, length-set, drop-of-length-le, tak
 use lib.Seq.{sets, take-suc, drop-cons, drop-drop}
 use Rattle.place.specs.Place.{Placed, putPart, length-part}
 use Rattle.place.specs.Spans.{Spans, spans-length, spans-part}
-use Rattle.text_lines.specs.Lines.{more, takes, takeLine}
+use Rattle.text_lines.specs.Lines.{countUp, takes, takeLine}
 use Rattle.text_lines.specs.LineLaws.{Clear}
 use Rattle.text_lines.specs.Steps.{Plain}
 use Rattle.text_lines.specs.declared.Taken.the-variants.{Line, Part}
@@ -31,7 +31,7 @@ takes-clear : (xs rest : List ℕ) (at : ℕ) (line : List ℕ) (n : ℕ) → Cl
 unfolding takes
 takes-clear [] rest at line n c h = rw (add-zero at, add-zero n)
 takes-clear (x ∷ xs) rest at line n c h =
-    let m : more n ≡ suc n = omega arith in
+    let m : countUp n ≡ suc n = omega arith in
     let a : at + suc (length xs) ≡ suc at + length xs = omega arith in
     let b : n + suc (length xs) ≡ suc n + length xs = omega arith in
     rw (ne-eqb x 10 (c .0), m, add-one at, a, b) (takes-clear xs rest (suc at) (set line n x) (suc n) (c .1) (omega arith))
@@ -54,7 +54,7 @@ module _ {block : List ℕ} {at : ℕ} {line₀ : List ℕ} {chars : ℕ} {line 
     unfolding takes
     take-whole e = rw (drop-cons block i 0 h, eq-eqb (getD block i 0) 10 e) at (w .rest)
 
-    pub take-more : (getD block i 0 ≡ 10 → ⊥) → {l : List ℕ} {m : ℕ} → l ≡ set line n (getD block i 0) → m ≡ more n → Taking-on block at line₀ chars l (i + 1) m
+    pub take-more : (getD block i 0 ≡ 10 → ⊥) → {l : List ℕ} {m : ℕ} → l ≡ set line n (getD block i 0) → m ≡ countUp n → Taking-on block at line₀ chars l (i + 1) m
     unfolding takes
     take-more e {l} {m} p q =
         let d : drop (i + 1) block ≡ drop (suc i) block = rw (add-one i) in

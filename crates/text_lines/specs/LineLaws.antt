@@ -8,7 +8,7 @@ use borrow.Author.Tests.{ne-eqb, eqb-true, eqb-false, ltb-true, ltb-false}
 use lib.Dec.{eqb, ltb}
 use lib.ListN.{length, take, drop, set, length-append, length-set, length-drop}
 use lib.Seq.{set-out, take-nil, take-suc-set, take-append-le, take-all}
-use Rattle.text_lines.specs.Lines.{more, inFirst, linesOf, Taking, takes, takeLine}
+use Rattle.text_lines.specs.Lines.{countUp, inFirst, linesOf, Taking, takes, takeLine}
 use Rattle.text_lines.specs.declared.Taken.the-variants.{Line, Part}
 
 -- ---- what is taken
@@ -21,11 +21,11 @@ Clear (c ∷ cs) = (c ≡ 10 → ⊥) × Clear cs
 -- the buffer and the count after characters
 abbrev pub keptLine : List ℕ → ℕ → List ℕ → List ℕ
 keptLine line n [] = line
-keptLine line n (c ∷ cs) = keptLine (set line n c) (more n) cs
+keptLine line n (c ∷ cs) = keptLine (set line n c) (countUp n) cs
 
 abbrev pub keptCount : ℕ → List ℕ → ℕ
 keptCount n [] = n
-keptCount n (c ∷ cs) = keptCount (more n) cs
+keptCount n (c ∷ cs) = keptCount (countUp n) cs
 
 -- a whole line: the characters xs, then LF
 pub record Whole (rest : List ℕ) (at : ℕ) (line : List ℕ) (chars : ℕ) (next k : ℕ) (line′ : List ℕ) : Type 0 where
@@ -42,12 +42,12 @@ pub whole : (rest : List ℕ) (at : ℕ) (line : List ℕ) (chars next k : ℕ) 
 unfolding takes
 whole [] at line chars next k line′ e =
     let z : Line next k ≡ Part chars = ap (λ (t : Taking). t .answer) e in let w : _≡_ {A = ℕ} 0 1 = cc in absurd (omega arith)
-whole (c ∷ rest) at line chars next k line′ e = go (eqb c 10) refl (whole rest (at + 1) (set line chars c) (more chars) next k line′)
+whole (c ∷ rest) at line chars next k line′ e = go (eqb c 10) refl (whole rest (at + 1) (set line chars c) (countUp chars) next k line′)
   where
     go : (b : Bool) → eqb c 10 ≡ b
         →
-        (record { answer = Line next k; line = line′ } ≡ takes rest (at + 1) (set line chars c) (more chars)
-        → Whole rest (at + 1) (set line chars c) (more chars) next k line′)
+        (record { answer = Line next k; line = line′ } ≡ takes rest (at + 1) (set line chars c) (countUp chars)
+        → Whole rest (at + 1) (set line chars c) (countUp chars) next k line′)
         → Whole (c ∷ rest) at line chars next k line′
     go true b ih =
         let q : _≡_ {A = Taking} (record { answer = Line next k; line = line′ }) (record { answer = Line (at + 1) chars; line = line }) = simp b at e in
@@ -79,10 +79,10 @@ unfolding takes
 ended [] at line chars k line′ e =
     let z : Part k ≡ Part chars = ap (λ (t : Taking). t .answer) e in
     record { clear = tt; count = cc; kept = ap (λ (t : Taking). t .line) e }
-ended (c ∷ rest) at line chars k line′ e = go (eqb c 10) refl (ended rest (at + 1) (set line chars c) (more chars) k line′)
+ended (c ∷ rest) at line chars k line′ e = go (eqb c 10) refl (ended rest (at + 1) (set line chars c) (countUp chars) k line′)
   where
     go : (b : Bool) → eqb c 10 ≡ b
-        → (record { answer = Part k; line = line′ } ≡ takes rest (at + 1) (set line chars c) (more chars) → Ended rest (set line chars c) (more chars) k line′)
+        → (record { answer = Part k; line = line′ } ≡ takes rest (at + 1) (set line chars c) (countUp chars) → Ended rest (set line chars c) (countUp chars) k line′)
         → Ended (c ∷ rest) line chars k line′
     go true b ih =
         let q : _≡_ {A = Taking} (record { answer = Part k; line = line′ }) (record { answer = Line (at + 1) chars; line = line }) = simp b at e in
@@ -151,7 +151,7 @@ pub record Keeps (line : List ℕ) (chars : ℕ) (ks : List ℕ) : Type 0 where
 pub keeps-none : (line : List ℕ) → length line < 2 ^ 64 → Keeps line 0 []
 keeps-none line h = record { short = h; count = omega arith; front = sym (take-nil (length line)) }
 
-keeps-one : {line : List ℕ} {chars : ℕ} {ks : List ℕ} (c : ℕ) → Keeps line chars ks → Keeps (set line chars c) (more chars) (ks ++ c ∷ [])
+keeps-one : {line : List ℕ} {chars : ℕ} {ks : List ℕ} (c : ℕ) → Keeps line chars ks → Keeps (set line chars c) (countUp chars) (ks ++ c ∷ [])
 keeps-one {line} {chars} {ks} c w =
     let n = length-append ks (c ∷ []) in
     record {
@@ -184,7 +184,7 @@ keeps-all {line} {chars} {ks} (c ∷ xs) w =
 
 kept-length : (line : List ℕ) (n : ℕ) (xs : List ℕ) → length (keptLine line n xs) ≡ length line
 kept-length line n [] = refl
-kept-length line n (x ∷ xs) = kept-length (set line n x) (more n) xs ∙ length-set line n x
+kept-length line n (x ∷ xs) = kept-length (set line n x) (countUp n) xs ∙ length-set line n x
 
 keeps-as : {line : List ℕ} {chars : ℕ} {ks : List ℕ} (xs : List ℕ) {k : ℕ} {line′ : List ℕ} → k ≡ keptCount chars xs → line′ ≡ keptLine line chars xs
     → Keeps line chars ks

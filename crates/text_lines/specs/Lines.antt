@@ -8,8 +8,8 @@ use Rattle.text_lines.specs.declared.Taken.{Taken}
 use Rattle.text_lines.specs.declared.Taken.the-variants.{Line, Part}
 
 -- one more, as far as a number of 64 bits goes
-abbrev pub more : ℕ → ℕ
-more n = min (n + 1) 0xffff_ffff_ffff_ffff
+abbrev pub countUp : ℕ → ℕ
+countUp n = min (n + 1) 0xffff_ffff_ffff_ffff
 
 -- ---- the whole input
 
@@ -35,7 +35,7 @@ pub record Taking : Type 0 where
 unfoldable pub takes : List ℕ → ℕ → List ℕ → ℕ → Taking
 takes [] at line chars = record { answer = Part chars; line = line }
 takes (c ∷ rest) at line chars =
-    choose (eqb c 10) (record { answer = Line (at + 1) chars; line = line }) (takes rest (at + 1) (set line chars c) (more chars))
+    choose (eqb c 10) (record { answer = Line (at + 1) chars; line = line }) (takes rest (at + 1) (set line chars c) (countUp chars))
 
 abbrev pub takeLine : List ℕ → ℕ → List ℕ → ℕ → Taking
 takeLine block at line chars = takes (drop at block) at line chars

@@ -2,10 +2,9 @@
 ghost use mathlib.Core.Path.{_≡_};
 ghost use lib.ListN.{set};
 ghost use mathlib.Core.Bool.{true};
-ghost use Rattle.text_lines.specs.Lines.{takeLine};
+ghost use Rattle.text_lines.specs.Lines.{takeLine, countUp};
 ghost use Rattle.text_lines.specs.LineLaws.{Clear};
 ghost use Rattle.text_lines.specs.Steps.{Plain, stepSize};
-ghost use Rattle.text_lines.specs.Lines.{more as Lines·more};
 
 // A whole line: the place after its LF, and its characters. Or the characters of the part that a block ends in.
 pub enum Taken {
@@ -14,8 +13,8 @@ pub enum Taken {
 }
 
 // One more, as far as a number goes.
-pub fn more(n: usize) -> usize
-    ensures { λ r. ⌜ r ≡ Lines·more n ⌝ }
+pub fn count_up(n: usize) -> usize
+    ensures { λ r. ⌜ r ≡ countUp n ⌝ }
 {
     if n < usize::MAX { n + 1 } else { n }
 }
@@ -93,7 +92,7 @@ pub fn take_line(block: &[u8], at: usize, line: &mut [u8], chars: usize) -> Take
             return Taken::Line(i, n);
         }
         keep(line, n, c);
-        n = more(n);
+        n = count_up(n);
     }
     Taken::Part(n)
 }

@@ -21,9 +21,9 @@ numberOf OutOfRange = 10
 numberOf Repeated = 11
 numberOf MissingField = 13
 
--- Rule K2: of a wire type
-abbrev pub typeOf : WireType → ℕ
-typeOf Varint = 0
-typeOf LengthDelimited = 1
-typeOf ThirtyTwoBit = 2
-typeOf SixtyFourBit = 3
+-- Rule K2: of a wire type, its kind
+abbrev pub kindOf : WireType → ℕ
+kindOf Varint = 0
+kindOf LengthDelimited = 1
+kindOf ThirtyTwoBit = 2
+kindOf SixtyFourBit = 3

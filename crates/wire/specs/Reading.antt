@@ -46,7 +46,7 @@ cappedAt s e p = renamed e p (varintAt s p)
 
 -- ---- a key
 
--- Rule K2: the type of a number
+-- Rule K2: the wire type of a kind
 abbrev pub wireOf : ℕ → WireType
 wireOf zero = wireType.Varint
 wireOf (suc zero) = wireType.LengthDelimited
@@ -115,13 +115,13 @@ pub data Message : Type 0 where
   Fields : List Field → Message
   Refused : Refusal → ℕ → Message
 
-abbrev pub more : Field → Message → Message
-more f (Fields fs) = Fields (f ∷ fs)
-more f (Refused r p) = Refused r p
+abbrev pub inFront : Field → Message → Message
+inFront f (Fields fs) = Fields (f ∷ fs)
+inFront f (Refused r p) = Refused r p
 
 -- Rule M5: a refusal has the place of the field's first byte
 abbrev pub onward : ℕ → FieldFound → (Field → ℕ → Message) → Message
-onward p (fieldFound.Got f q) go = more f (go f q)
+onward p (fieldFound.Got f q) go = inFront f (go f q)
 onward p (fieldFound.Refused r) go = Refused r p
 
 -- Rules M1 and M6: not before the end: finished at it, Truncated past it, with the place m of the last field read

@@ -10,9 +10,9 @@ use lib.ListN.{length, take, drop, length-append, length-drop}
 use lib.Seq.{take-at, take-append-seam, getD-drop, length-take-le}
 use Rattle.wire.specs.Varint.{encode, Sum, Adds, Stops, sum}
 use Rattle.wire.specs.VarintLaws.{Bytes, sum-enc, enc-sum, sum-takes, length-pos}
-use Rattle.wire.specs.Numbers.{typeOf}
+use Rattle.wire.specs.Numbers.{kindOf}
 use Rattle.wire.specs.Fixed.{fixed, number, length-fixed, number-fixed, fixed-number, number-small}
-use Rattle.wire.specs.Written.{Content, Number, Payload, Four, Eight, Item, type, writtenContent, writtenItem, GoodContent, GoodItem}
+use Rattle.wire.specs.Written.{Content, Number, Payload, Four, Eight, Item, contentKind, writtenContent, writtenItem, GoodContent, GoodItem}
 use Rattle.wire.specs.Places.{part, shown, itemOf, join, behind, reach}
 use Rattle.wire.specs.Reading.{judged, varintAt, renamed, cappedAt, wireOf, keyOf, keyAt, within, numberFrom, payloadFrom, valueAt, tagged}
 use Rattle.wire.specs.Reading.{fieldOf, fieldAt}
@@ -86,12 +86,12 @@ capped-back s e p v t h g = rw (varint-back s p v t h g)
 
 -- ---- keys
 
-pub type-wire : (n : ℕ) → n < 4 → typeOf (wireOf n) ≡ n
-type-wire zero h = refl
-type-wire (suc zero) h = refl
-type-wire (suc (suc zero)) h = refl
-type-wire (suc (suc (suc zero))) h = refl
-type-wire (suc (suc (suc (suc n)))) h = let z : _≡_ {A = ℕ} 0 1 = omega arith in absurd (omega arith)
+pub kind-wire : (n : ℕ) → n < 4 → kindOf (wireOf n) ≡ n
+kind-wire zero h = refl
+kind-wire (suc zero) h = refl
+kind-wire (suc (suc zero)) h = refl
+kind-wire (suc (suc (suc zero))) h = refl
+kind-wire (suc (suc (suc (suc n)))) h = let z : _≡_ {A = ℕ} 0 1 = omega arith in absurd (omega arith)
 
 pub wire-eight : (n : ℕ) → 3 ≤ n → wireOf n ≡ wireType.SixtyFourBit
 wire-eight zero h = absurd (omega arith)
@@ -184,7 +184,7 @@ value-moves s e p wireType.SixtyFourBit v q h =
 
 -- the bytes that a value was read from are those that it is written as
 abbrev pub Took : List ℕ → ℕ → ℕ → WireType → Content → Type 0
-Took s p q w c = (part s p q ≡ writtenContent c) × GoodContent c × (type c ≡ typeOf w)
+Took s p q w c = (part s p q ≡ writtenContent c) × GoodContent c × (contentKind c ≡ kindOf w)
 
 module _ (s : List ℕ) (h : Bytes s) where
   took-fixed : (k p : ℕ) → p + k ≤ length s
@@ -220,11 +220,11 @@ module _ (s : List ℕ) (h : Bytes s) where
       let d : q - p ≡ 8 = omega (arith, x .1) in
       rw (x .0, d) (r .0, r .1, refl)
 
-pub type-small : (c : Content) → type c < 4
-type-small (Number v) = omega arith
-type-small (Payload p) = omega arith
-type-small (Four n) = omega arith
-type-small (Eight n) = omega arith
+pub content-kind-below : (c : Content) → contentKind c < 4
+content-kind-below (Number v) = omega arith
+content-kind-below (Payload p) = omega arith
+content-kind-below (Four n) = omega arith
+content-kind-below (Eight n) = omega arith
 
 pub content-pos : (c : Content) → 1 ≤ length (writtenContent c)
 content-pos (Number v) = length-pos v
@@ -234,7 +234,7 @@ content-pos (Eight n) = omega arith
 
 -- a value that shows c is read back where c is written
 abbrev pub Back : List ℕ → ℕ → ℕ → Content → Type 0
-Back s e p c = (v : Value) × (valueAt s e p (wireOf (type c)) ≡ valueFound.Got v (p + length (writtenContent c))) × (shown s v ≡ c)
+Back s e p c = (v : Value) × (valueAt s e p (wireOf (contentKind c)) ≡ valueFound.Got v (p + length (writtenContent c))) × (shown s v ≡ c)
 
 pub within-slice : (s : List ℕ) (e q : ℕ) (v : Value) → length s < q → within s e q v ≡ valueFound.Refused Truncated
 within-slice s e q v a = rw (lt-leb q (length s) a)
@@ -312,15 +312,15 @@ field-took s e p last f q g h =
     let b = value-moves s e i (x .wire) (f .value) q (x .value) in
     let m = field-moves s e p last f q h in
     let c = value-took s g e i (x .wire) (f .value) q (x .value) in
-    let y : type (shown s (f .value)) ≡ k .key % 4 = c .2 ∙ ap typeOf (k .wire) ∙ type-wire (k .key % 4) (omega arith) in
-    let v : 4 * (f .tag - last) + type (shown s (f .value)) ≡ k .key = omega (arith, k .tag, y) in (
+    let y : contentKind (shown s (f .value)) ≡ k .key % 4 = c .2 ∙ ap kindOf (k .wire) ∙ kind-wire (k .key % 4) (omega arith) in
+    let v : 4 * (f .tag - last) + contentKind (shown s (f .value)) ≡ k .key = omega (arith, k .tag, y) in (
       sym (join s p i q (omega (arith, a .0)) (omega (arith, b .0))) ∙ rw (v, varint-took s p (k .key) i g (k .read), c .0),
       record { order = m .2; small = m .3; content = c .1 },
     )
 
 pub item-pos : (last : ℕ) (i : Item) → 2 ≤ length (writtenItem last i)
 item-pos last i =
-    let k = 4 * (i .tag - last) + type (i .content) in
+    let k = 4 * (i .tag - last) + contentKind (i .content) in
     omega (arith, length-append (encode k) (writtenContent (i .content)), length-pos k, content-pos (i .content))
 
 pub field-back : (s : List ℕ) (e p last : ℕ) (i : Item) (t : List ℕ) → drop p s ≡ writtenItem last i ++ t → GoodItem last i
@@ -329,13 +329,13 @@ pub field-back : (s : List ℕ) (e p last : ℕ) (i : Item) (t : List ℕ) → d
 unfolding fieldAt
 field-back s e p last i t h g b =
     let d = i .tag - last in
-    let y = type (i .content) in
+    let y = contentKind (i .content) in
     let k = encode (4 * d + y) in
     let c = writtenContent (i .content) in
     let len = length-append k c in
     let a : drop p s ≡ k ++ (c ++ t) = h ∙ append-assoc k c t in
     let o : last + d ≡ i .tag = omega (arith, g .order) in
-    let u = key-back s e p last d y (c ++ t) (omega (arith, g .order, g .small)) (type-small (i .content)) a in
+    let u = key-back s e p last d y (c ++ t) (omega (arith, g .order, g .small)) (content-kind-below (i .content)) a in
     let v = value-back s e (p + length k) (i .content) t (behind s p k (c ++ t) a) (g .content) (omega (arith, len)) in
     let q : p + length (k ++ c) ≡ p + length k + length c = omega (arith, len) in (
       record { tag = i .tag; value = v .0 },

@@ -82,7 +82,7 @@ abbrev pub fieldsFrom : ℕ → List ℕ → ℕ → List Field
 fieldsFrom zero t i = []
 fieldsFrom (suc k) t i = fieldIn (recordAt t i) ∷ fieldsFrom k t (suc i)
 
--- ---- a good record (rule T3), over a source of n bytes: the value and length words of each type, then the tag
+-- ---- a good record (rule T3), over a source of n bytes: the value and length words of each kind, then the tag
 
 unfoldable pub goodValue : ℕ → ℕ → ℕ → ℕ → Bool
 goodValue n zero v l = eqb l 0

@@ -11,7 +11,7 @@ use lib.Seq.{length-take-le}
 use Rattle.wire.specs.VarintLaws.{Bytes}
 use Rattle.wire.specs.Written.{Item, writtenItem, writtenFrom, written, GoodFrom, Good}
 use Rattle.wire.specs.Places.{part, items, join, behind}
-use Rattle.wire.specs.Reading.{fieldAt, Message, Fields, Refused, more, ended, readsFrom, readMessage}
+use Rattle.wire.specs.Reading.{fieldAt, Message, Fields, Refused, inFront, ended, readsFrom, readMessage}
 use Rattle.wire.specs.ReadingLaws.{field-moves, field-took, field-back, item-pos}
 use Rattle.wire.specs.declared.Refusal.{Refusal}
 use Rattle.wire.specs.declared.Refusal.the-variants.{Truncated}
@@ -23,7 +23,7 @@ use Rattle.wire.specs.declared.FieldFound.the-variants as fieldFound
 
 module _ (s : List ℕ) (e m p last : ℕ) where
   pub turn-field : (k : ℕ) (f : Field) (q : ℕ) → p < e → fieldAt s e p last ≡ fieldFound.Got f q
-      → readsFrom (suc k) s e m p last ≡ more f (readsFrom k s e p q (f .tag))
+      → readsFrom (suc k) s e m p last ≡ inFront f (readsFrom k s e p q (f .tag))
   turn-field k f q h g = rw (lt-ltb p e h, g)
 
   pub turn-refused : (k : ℕ) (r : Refusal) → p < e → fieldAt s e p last ≡ fieldFound.Refused r → readsFrom (suc k) s e m p last ≡ Refused r p
@@ -42,9 +42,9 @@ module _ (s : List ℕ) (e m p last : ℕ) where
 pub refused-fields : {A : Type 0} (r : Refusal) (p : ℕ) (fs : List Field) → Refused r p ≡ Fields fs → A
 refused-fields r p fs e = let z : _≡_ {A = ℕ} 0 1 = cc in absurd (omega arith)
 
-pub more-fields : (f : Field) (r : Message) (fs : List Field) → more f r ≡ Fields fs → (gs : List Field) × (r ≡ Fields gs) × (fs ≡ f ∷ gs)
-more-fields f (Fields gs) fs e = (gs, refl, cc)
-more-fields f (Refused r p) fs e = refused-fields r p fs e
+pub in-front-fields : (f : Field) (r : Message) (fs : List Field) → inFront f r ≡ Fields fs → (gs : List Field) × (r ≡ Fields gs) × (fs ≡ f ∷ gs)
+in-front-fields f (Fields gs) fs e = (gs, refl, cc)
+in-front-fields f (Refused r p) fs e = refused-fields r p fs e
 
 -- what stands behind a message that is accepted from place p: no field at the end, or one and a message behind it
 pub data Stands (k : ℕ) (s : List ℕ) (e p last : ℕ) (fs : List Field) : Type 0 where
@@ -64,7 +64,7 @@ stands k s e m p last fs h = go (ltb p e) refl (fieldAt s e p last) refl
   where
     go : (b : Bool) → ltb p e ≡ b → (o : FieldFound) → fieldAt s e p last ≡ o → Stands k s e p last fs
     go true b (fieldFound.Got f q) o =
-        let x = more-fields f (readsFrom k s e p q (f .tag)) fs (sym (turn-field s e m p last k f q (ltb-true p e b) o) ∙ h) in
+        let x = in-front-fields f (readsFrom k s e p q (f .tag)) fs (sym (turn-field s e m p last k f q (ltb-true p e b) o) ∙ h) in
         some f q (x .0) (ltb-true p e b) o (x .1) (x .2)
     go true b (fieldFound.Refused r) o = refused-fields r p fs (sym (turn-refused s e m p last k r (ltb-true p e b) o) ∙ h)
     go false b o q = ended-fields k s e m p last fs (sym (turn-ended s e m p last (suc k) (ltb-false p e b)) ∙ h)
@@ -117,7 +117,7 @@ message-back (suc k) s e m p last (i ∷ is) t d g h j =
     let y = message-back k s e p (p + length a) (i .tag) is t (behind s p a (b ++ t) c) (g .1) (omega (arith, len)) (omega (arith, len, pos)) in (
       x .0 ∷ y .0,
       turn-field s e m p last k (x .0) (p + length a) (omega (arith, len, pos)) (x .1)
-          ∙ ap (λ (l : ℕ). more (x .0) (readsFrom k s e p (p + length a) l)) tag ∙ ap (more (x .0)) (y .1),
+          ∙ ap (λ (l : ℕ). inFront (x .0) (readsFrom k s e p (p + length a) l)) tag ∙ ap (inFront (x .0)) (y .1),
       rw (x .2, y .2),
     )
 

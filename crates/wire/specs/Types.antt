@@ -5,23 +5,23 @@ use native.Mathlib.Omega.{arith}
 use lib.ListN.{length}
 use Rattle.wire.specs.Varint.{encode}
 use Rattle.wire.specs.VarintLength.{length-four}
-use Rattle.wire.specs.Numbers.{typeOf}
+use Rattle.wire.specs.Numbers.{kindOf}
 use Rattle.wire.specs.Reading.{wireOf}
 use Rattle.wire.specs.declared.WireType.{WireType}
 use Rattle.wire.specs.declared.WireType.the-variants.{Varint, LengthDelimited, ThirtyTwoBit, SixtyFourBit}
 
-pub type-below : (w : WireType) → typeOf w < 4
-type-below Varint = omega arith
-type-below LengthDelimited = omega arith
-type-below ThirtyTwoBit = omega arith
-type-below SixtyFourBit = omega arith
+pub kind-below : (w : WireType) → kindOf w < 4
+kind-below Varint = omega arith
+kind-below LengthDelimited = omega arith
+kind-below ThirtyTwoBit = omega arith
+kind-below SixtyFourBit = omega arith
 
-pub wire-type : (w : WireType) → wireOf (typeOf w) ≡ w
-wire-type Varint = refl
-wire-type LengthDelimited = refl
-wire-type ThirtyTwoBit = refl
-wire-type SixtyFourBit = refl
+pub wire-kind : (w : WireType) → wireOf (kindOf w) ≡ w
+wire-kind Varint = refl
+wire-kind LengthDelimited = refl
+wire-kind ThirtyTwoBit = refl
+wire-kind SixtyFourBit = refl
 
 -- A KEY IS MEASURED WITHOUT ITS TYPE (rule K5): all limits are multiples of four, so the type never changes the length
-pub key-length : (d : ℕ) (w : WireType) → length (encode (4 * d + typeOf w)) ≡ length (encode (4 * d))
-key-length d w = length-four d (typeOf w) (type-below w)
+pub key-length : (d : ℕ) (w : WireType) → length (encode (4 * d + kindOf w)) ≡ length (encode (4 * d))
+key-length d w = length-four d (kindOf w) (kind-below w)

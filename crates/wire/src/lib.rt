@@ -37,7 +37,7 @@ pub struct Key {
     pub wire: WireType,
 }
 
-// A field as it stands in a table: its tag, its wire type's number, the number or the payload's start, the value's bytes (0 for a varint).
+// A field as it stands in a table: its tag, its wire type's number (its kind), the number or the payload's start, the value's bytes (0 for a varint).
 pub struct Record {
     pub tag: u64,
     pub kind: u64,

@@ -14,7 +14,7 @@ use Rattle.wire.specs.Varint.{encode}
 use Rattle.wire.specs.VarintLaws.{length-le}
 use Rattle.wire.specs.VarintLength.{length-four}
 use Rattle.wire.specs.Fixed.{fixed}
-use Rattle.wire.specs.Written.{type, writtenContent, writtenItem}
+use Rattle.wire.specs.Written.{contentKind, writtenContent, writtenItem}
 use Rattle.wire.specs.Places.{shown, itemOf}
 use Rattle.wire.specs.Table.{recordAt, valueOf, fieldIn, goodValue, good}
 use Rattle.write_record.specs.Records.{tagBefore, Judged, Fine, Bad, judge, Verdict, AllFine, First, andThen, tested, valueBytes, recordBytes}
@@ -60,7 +60,7 @@ pub good-tag : (n : ℕ) (r : Record) → r .tag < 2 ^ 32 → good n r ≡ goodV
 unfolding good
 good-tag n r h = simp (lt-ltb (r .tag) (2 ^ 32) h)
 
--- ---- what is said of a value, by its type
+-- ---- what is said of a value, by its kind
 
 module _ (n k v l : ℕ) where
   pub value-number : k ≡ 0 → l ≡ 0 → weighValue n k v l ≡ weight.Bytes (length (encode v))
@@ -100,9 +100,9 @@ module _ (n k v l : ℕ) where
   unfolding weighValue goodValue
   no-eight e f = rw (e, ne-eqb l 8 f)
 
-  pub no-type : 3 < k → weighValue n k v l ≡ weight.Bad BadRecord
+  pub no-kind : 3 < k → weighValue n k v l ≡ weight.Bad BadRecord
   unfolding weighValue goodValue
-  no-type h = rw (none k h)
+  no-kind h = rw (none k h)
     where
       none : (j : ℕ) → 3 < j → goodValue n j v l ≡ false
       none zero g = absurd (omega arith)
@@ -188,12 +188,12 @@ module _ (n : ℕ) (t : List ℕ) where
 
 -- ---- the bytes of one record
 
-type-of : (s : List ℕ) (k v l : ℕ) → k < 4 → type (shown s (valueOf k v l)) ≡ k
-type-of s zero v l h = refl
-type-of s (suc zero) v l h = refl
-type-of s (suc (suc zero)) v l h = refl
-type-of s (suc (suc (suc zero))) v l h = refl
-type-of s (suc (suc (suc (suc k)))) v l h = absurd (omega arith)
+kind-shown : (s : List ℕ) (k v l : ℕ) → k < 4 → contentKind (shown s (valueOf k v l)) ≡ k
+kind-shown s zero v l h = refl
+kind-shown s (suc zero) v l h = refl
+kind-shown s (suc (suc zero)) v l h = refl
+kind-shown s (suc (suc (suc zero))) v l h = refl
+kind-shown s (suc (suc (suc (suc k)))) v l h = absurd (omega arith)
 
 -- the bytes of a part that is inside are as many as it says
 pub length-inside : (s : List ℕ) (from n : ℕ) → from + n ≤ length s → length (take n (drop from s)) ≡ n
@@ -202,9 +202,9 @@ length-inside s from n h = length-take-le n (drop from s) (omega (arith, length-
 module _ (s : List ℕ) (r : Record) where
   pub record-bytes : (prev : ℕ) → r .kind < 4 → recordBytes s prev r ≡ encode (4 * (r .tag - prev) + r .kind) ++ valueBytes s r
   unfolding recordBytes valueBytes
-  record-bytes prev h = rw (type-of s (r .kind) (r .value) (r .length) h)
+  record-bytes prev h = rw (kind-shown s (r .kind) (r .value) (r .length) h)
 
-  -- the value's bytes, by the type
+  -- the value's bytes, by the kind
   pub bytes-varint : r .kind ≡ 0 → valueBytes s r ≡ encode (r .value)
   unfolding valueBytes
   bytes-varint e = rw e

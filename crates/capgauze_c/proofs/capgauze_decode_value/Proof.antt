@@ -6,8 +6,8 @@ use borrow.Author.Needs.{needs}
 use Rattle.capgauze_c.proofs.capgauze_decode_value.Statement.{statement}
 use Rattle.capgauze_c.proofs.capgauze_decode_value.Tie as tie
 
-wire-type-requires : tie.Need-wire-type-requires
-wire-type-requires c κs = search needs
+typed-of-requires : tie.Need-typed-of-requires
+typed-of-requires c κs = search needs
 
 enum-known-wire : tie.Need-enum-known-wire
 enum-known-wire c = search needs
@@ -21,7 +21,7 @@ value-read-words-requires c κs = search needs
 returns : tie.Need-returns
 returns c =
     let n = c .before in
-    c .value-read-words .ensures ∙ sym (value-unknown _ _ _ (sym (n .before .before .wire-type .ensures) ∙ n .enum-told .given .1))
+    c .value-read-words .ensures ∙ sym (value-unknown _ _ _ (sym (n .before .before .typed-of .ensures) ∙ n .enum-told .given .1))
 
 decode-value-requires : tie.Need-decode-value-requires
 decode-value-requires c κs = search needs
@@ -33,13 +33,13 @@ returns-2 : tie.Need-returns-2
 returns-2 c =
     let w = c .before .before .before in
     c .value-read-words2 .ensures ∙ ap valueTold (c .before .decode-value .ensures)
-    ∙ sym (value-known _ _ _ _ (sym (w .before .before .wire-type .ensures) ∙ w .wire .given .1))
+    ∙ sym (value-known _ _ _ _ (sym (w .before .before .typed-of .ensures) ∙ w .wire .given .1))
 
 pub capgauze-decode-value-spec : {M : Type 1} → statement M
 capgauze-decode-value-spec =
     tie.close
     (tie.spec
-    wire-type-requires
+    typed-of-requires
     enum-known-wire
     enum-told
     value-read-words-requires

@@ -6,8 +6,8 @@ use borrow.Author.Needs.{needs}
 use Rattle.capgauze_c.proofs.capgauze_skip_field.Statement.{statement}
 use Rattle.capgauze_c.proofs.capgauze_skip_field.Tie as tie
 
-wire-type-requires : tie.Need-wire-type-requires
-wire-type-requires c κs = search needs
+typed-of-requires : tie.Need-typed-of-requires
+typed-of-requires c κs = search needs
 
 enum-known-wire : tie.Need-enum-known-wire
 enum-known-wire c = search needs
@@ -21,7 +21,7 @@ skipped-words-requires c κs = search needs
 returns : tie.Need-returns
 returns c =
     let n = c .before in
-    c .skipped-words .ensures ∙ sym (place-unknown _ _ _ (sym (n .before .before .wire-type .ensures) ∙ n .enum-told .given .1))
+    c .skipped-words .ensures ∙ sym (place-unknown _ _ _ (sym (n .before .before .typed-of .ensures) ∙ n .enum-told .given .1))
 
 skip-field-requires : tie.Need-skip-field-requires
 skip-field-requires c κs = search needs
@@ -33,13 +33,13 @@ returns-2 : tie.Need-returns-2
 returns-2 c =
     let w = c .before .before .before in
     c .skipped-words2 .ensures ∙ ap skippedTold (c .before .skip-field .ensures)
-    ∙ sym (place-known _ _ _ _ (sym (w .before .before .wire-type .ensures) ∙ w .wire .given .1))
+    ∙ sym (place-known _ _ _ _ (sym (w .before .before .typed-of .ensures) ∙ w .wire .given .1))
 
 pub capgauze-skip-field-spec : {M : Type 1} → statement M
 capgauze-skip-field-spec =
     tie.close
     (tie.spec
-    wire-type-requires
+    typed-of-requires
     enum-known-wire
     enum-told
     skipped-words-requires

@@ -4,7 +4,7 @@ use native.Mathlib.Omega.{arith}
 use Prim.Native.Nat.{_-_}
 use Rattle.entry_field.specs.Fields.{stepEntry}
 use Rattle.entry_answer.specs.declared.Step.the-variants.{Field}
-use Rattle.entry_reader.proofs.Counting.{Counting, start, moves, more, ends, refuses}
+use Rattle.entry_reader.proofs.Counting.{Counting, start, moves, one-more, ends, refuses}
 use borrow.Author.Needs.{needs}
 use Rattle.entry_reader.proofs.count_fields.Statement.{statement}
 use Rattle.entry_reader.proofs.count_fields.Tie as tie
@@ -40,7 +40,7 @@ loop-less : tie.Need-loop-less Inv-loop μ-loop
 loop-less c = let m = moves _ _ _ _ _ _ (found c) in omega (arith, m .0, m .2)
 
 loop-again : tie.Need-loop-again Inv-loop μ-loop
-loop-again c = more (c .before .before .before .before .loop .inv) _ _ (found c)
+loop-again c = one-more (c .before .before .before .before .loop .inv) _ _ (found c)
 
 enum-told : tie.Need-enum-told Inv-loop μ-loop
 enum-told c = search needs

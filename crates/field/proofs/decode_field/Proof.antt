@@ -1,4 +1,4 @@
--- A key, then the value of its type.
+-- A key, then the value of its wire type.
 use mathlib.Core.Path.{_≡_, _∙_, ap, sym}
 use mathlib.Core.Logic.{⊎-elim}
 use Rattle.wire.specs.Reading.{tagged, fieldAt}

@@ -1,6 +1,6 @@
--- `field::key_of` meets its contract: the type's number is below four, so nothing wraps.
+-- `field::key_of` meets its contract: the kind is below four, so nothing wraps.
 use native.Mathlib.Omega.{arith}
-use Rattle.wire.specs.Types.{type-below}
+use Rattle.wire.specs.Types.{kind-below}
 use borrow.Author.Needs.{needs}
 use Rattle.field_key.proofs.key_of.Statement.{statement}
 use Rattle.field_key.proofs.key_of.Tie as tie
@@ -15,7 +15,7 @@ wire-number-requires : tie.Need-wire-number-requires
 wire-number-requires c κs = search needs
 
 add-result : tie.Need-add-result
-add-result c = omega (arith, type-below (c .before .before .args .wire))
+add-result c = omega (arith, kind-below (c .before .before .args .wire))
 
 returns : tie.Need-returns
 returns c = search needs

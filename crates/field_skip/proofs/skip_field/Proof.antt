@@ -6,7 +6,7 @@ use lib.ListN.{length}
 use Rattle.wire.specs.Reading.{wireOf}
 use Rattle.wire.specs.Skipping.{pastAt, skipAt}
 use Rattle.field_skip.specs.SkippingLaws.{past-moves}
-use Rattle.wire.specs.Types.{wire-type}
+use Rattle.wire.specs.Types.{wire-kind}
 use Rattle.wire.specs.declared.Reached.the-variants.{To}
 use Rattle.field_skip.proofs.Skips.{Passing, pass-start, pass-refused, pass-ends, pass-more}
 use borrow.Author.Needs.{needs}
@@ -25,12 +25,12 @@ wire-number-requires c κs = search needs
 loop-holds : tie.Need-loop-holds Inv-loop μ-loop
 loop-holds c = pass-start _ _ _ _
 
--- the number of the type stands for the type
+-- the kind stands for the wire type
 whole : (c : tie.At-loop Inv-loop μ-loop) → let a = c .before .before .before .args in
     skipAt (a .s .now) (a .end) (a .at) (wireOf (c .before .wire-number .result)) ≡ skipAt (a .s .now) (a .end) (a .at) (a .wire)
 whole c =
     let a = c .before .before .before .args in
-    ap (skipAt (a .s .now) (a .end) (a .at)) (ap wireOf (c .before .wire-number .ensures) ∙ wire-type (a .wire))
+    ap (skipAt (a .s .now) (a .end) (a .at)) (ap wireOf (c .before .wire-number .ensures) ∙ wire-kind (a .wire))
 
 -- the value at the loop's place is passed up to q
 passed : (c : tie.After-known-told2 Inv-loop μ-loop) → let l = c .before .before .before .before in let a = l .before .before .before .args in

@@ -1,4 +1,4 @@
--- Each type of value gives its words.
+-- Each kind of value gives its words.
 use mathlib.Core.Path.{_≡_}
 use native.Mathlib.Omega.{arith}
 use Prim.Native.Nat.{_≤_}

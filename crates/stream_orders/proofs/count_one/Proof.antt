@@ -5,14 +5,14 @@ use borrow.Author.Needs.{needs}
 use Rattle.stream_orders.proofs.count_one.Statement.{statement}
 use Rattle.stream_orders.proofs.count_one.Tie as tie
 
-mul-more : tie.Need-mul-more
-mul-more c = search needs
+mul-count-up : tie.Need-mul-count-up
+mul-count-up c = search needs
 
-slice-read-more : tie.Need-slice-read-more
-slice-read-more c = search needs
+slice-read-count-up : tie.Need-slice-read-count-up
+slice-read-count-up c = search needs
 
-more-requires : tie.Need-more-requires
-more-requires c κs = search needs
+count-up-requires : tie.Need-count-up-requires
+count-up-requires c κs = search needs
 
 mul-tally : tie.Need-mul-tally
 mul-tally c = search needs
@@ -24,7 +24,7 @@ same-length : tie.Need-same-length
 same-length c = search needs
 
 returns : tie.Need-returns
-returns c = counted-there _ _ (c .more .ensures)
+returns c = counted-there _ _ (c .count-up .ensures)
 
 returns-2 : tie.Need-returns-2
 returns-2 c = counted-not _ _ (omega arith)
@@ -33,9 +33,9 @@ pub count-one-spec : {M : Type 1} → statement M
 count-one-spec =
     tie.close
     (tie.spec
-    mul-more
-    slice-read-more
-    more-requires
+    mul-count-up
+    slice-read-count-up
+    count-up-requires
     mul-tally
     slice-write-tally
     same-length

@@ -71,8 +71,8 @@ returns c =
 keep-requires : tie.Need-keep-requires Inv-loop μ-loop Inv-loop2 μ-loop2
 keep-requires c κs = search needs
 
-more-requires : tie.Need-more-requires Inv-loop μ-loop Inv-loop2 μ-loop2
-more-requires c κs = search needs
+count-up-requires : tie.Need-count-up-requires Inv-loop μ-loop Inv-loop2 μ-loop2
+count-up-requires c κs = search needs
 
 loop2-less : tie.Need-loop2-less Inv-loop μ-loop Inv-loop2 μ-loop2
 loop2-less c = search needs
@@ -81,7 +81,7 @@ loop2-again : tie.Need-loop2-again Inv-loop μ-loop Inv-loop2 μ-loop2
 loop2-again c =
     let d = c .before .before .before .before .before in
     take-more (d .before .before .before .loop2 .inv) (d .before .before .loop2-test .taken) (d .if2 .left)
-    (c .before .before .before .keep .ensures) (c .more .ensures)
+    (c .before .before .before .keep .ensures) (c .count-up .ensures)
 
 same-length-2 : tie.Need-same-length-2 Inv-loop μ-loop Inv-loop2 μ-loop2
 same-length-2 c = c .before .loop2 .inv .same ∙ c .before .before .before .before .before .loop .inv .same
@@ -110,7 +110,7 @@ take-line-spec =
     same-length
     returns
     keep-requires
-    more-requires
+    count-up-requires
     loop2-less
     loop2-again
     same-length-2

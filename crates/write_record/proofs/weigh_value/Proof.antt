@@ -2,7 +2,7 @@
 use mathlib.Core.Path.{sym}
 use native.Mathlib.Omega.{arith}
 use Rattle.wire.specs.VarintLaws.{length-le}
-use Rattle.write_record.specs.RecordLaws.{value-number, no-number, value-payload, no-payload, value-four, no-four, value-eight, no-eight, no-type}
+use Rattle.write_record.specs.RecordLaws.{value-number, no-number, value-payload, no-payload, value-four, no-four, value-eight, no-eight, no-kind}
 use borrow.Author.Needs.{needs}
 use Rattle.write_record.proofs.weigh_value.Statement.{statement}
 use Rattle.write_record.proofs.weigh_value.Tie as tie
@@ -56,7 +56,7 @@ returns-10 : tie.Need-returns-10
 returns-10 c = sym (no-eight _ _ _ _ (c .before .if9 .taken) (c .if10 .left))
 
 returns-11 : tie.Need-returns-11
-returns-11 c = sym (no-type _ _ _ _ (omega arith))
+returns-11 c = sym (no-kind _ _ _ _ (omega arith))
 
 pub weigh-value-spec : {M : Type 1} → statement M
 weigh-value-spec =

@@ -1,7 +1,7 @@
 -- `text_lines::more` meets its contract.
 use native.Mathlib.Omega.{arith}
-use Rattle.text_lines.proofs.more.Statement.{statement}
-use Rattle.text_lines.proofs.more.Tie as tie
+use Rattle.text_lines.proofs.count_up.Statement.{statement}
+use Rattle.text_lines.proofs.count_up.Tie as tie
 
 add-result : tie.Need-add-result
 add-result c = omega arith
@@ -12,5 +12,5 @@ returns c = omega arith
 returns-2 : tie.Need-returns-2
 returns-2 c = omega arith
 
-pub more-spec : {M : Type 1} → statement M
-more-spec = tie.close (tie.spec add-result returns returns-2)
+pub count-up-spec : {M : Type 1} → statement M
+count-up-spec = tie.close (tie.spec add-result returns returns-2)

@@ -2,8 +2,8 @@
 use mathlib.Core.Path.{ap, sym}
 use native.Mathlib.Omega.{arith}
 use Rattle.c_words.specs.Words.{typedOf, typed-above}
-use Rattle.c_words.proofs.wire_type.Statement.{statement}
-use Rattle.c_words.proofs.wire_type.Tie as tie
+use Rattle.c_words.proofs.typed_of.Statement.{statement}
+use Rattle.c_words.proofs.typed_of.Tie as tie
 
 returns : tie.Need-returns
 unfolding typedOf
@@ -24,5 +24,5 @@ returns-4 c = sym (ap typedOf (c .match .keys4))
 returns-5 : tie.Need-returns-5
 returns-5 c = sym (typed-above (c .before .args .kind) (omega arith))
 
-pub wire-type-spec : {M : Type 1} → statement M
-wire-type-spec = tie.close (tie.spec returns returns-2 returns-3 returns-4 returns-5)
+pub typed-of-spec : {M : Type 1} → statement M
+typed-of-spec = tie.close (tie.spec returns returns-2 returns-3 returns-4 returns-5)
