@@ -109,7 +109,10 @@ pub extern "C" fn capgauze_decode_key(s: &[u8], at: usize, end: usize, last: u32
 // A key's bytes at the buffer's front.
 #[no_mangle]
 pub extern "C" fn capgauze_encode_key(last: u32, tag: u32, kind: u64, buf: &mut [u8]) -> Number
-    ensures { λ r. ⌜ record { told = asNumber r; lent = now (buf .exit) } ≡ keyStored (now (buf .entry)) (typedOf kind) (keyAtFront (now (buf .entry)) last tag) ⌝ }
+    ensures { λ r. ⌜
+        record { told = asNumber r; lent = now (buf .exit) }
+        ≡ keyStored (now (buf .entry)) (typedOf kind) (keyAtFront (now (buf .entry)) last tag)
+        ⌝ }
 {
     let Typed::Is(wire) = c_words::typed_of(kind) else {
         return c_words::put_words(Put::Refused(Refusal::BadRecord));
@@ -120,7 +123,10 @@ pub extern "C" fn capgauze_encode_key(last: u32, tag: u32, kind: u64, buf: &mut 
 // A key's bytes at the buffer's end.
 #[no_mangle]
 pub extern "C" fn capgauze_prepend_key(last: u32, tag: u32, kind: u64, buf: &mut [u8]) -> Number
-    ensures { λ r. ⌜ record { told = asNumber r; lent = now (buf .exit) } ≡ keyStored (now (buf .entry)) (typedOf kind) (keyAtEnd (now (buf .entry)) last tag) ⌝ }
+    ensures { λ r. ⌜
+        record { told = asNumber r; lent = now (buf .exit) }
+        ≡ keyStored (now (buf .entry)) (typedOf kind) (keyAtEnd (now (buf .entry)) last tag)
+        ⌝ }
 {
     let Typed::Is(wire) = c_words::typed_of(kind) else {
         return c_words::put_words(Put::Refused(Refusal::BadRecord));
@@ -216,7 +222,10 @@ pub extern "C" fn capgauze_read_payload(
     length: u64,
     table: &mut [u64],
 ) -> ReadWords
-    ensures { λ r. ⌜ record { told = asRead r; lent = now (table .exit) } ≡ outcomeTold (readPayload (now (s .entry)) (record { tag = tag; kind = kind; value = value; length = length }) (now (table .entry))) ⌝ }
+    ensures { λ r. ⌜
+        record { told = asRead r; lent = now (table .exit) }
+        ≡ outcomeTold (readPayload (now (s .entry)) (record { tag = tag; kind = kind; value = value; length = length }) (now (table .entry)))
+        ⌝ }
 {
     let r = Record {
         tag: tag,
@@ -262,7 +271,10 @@ pub extern "C" fn capgauze_encode_message(
     count: usize,
     buf: &mut [u8],
 ) -> WrittenWords
-    ensures { λ r. ⌜ record { told = asWritten r; lent = now (buf .exit) } ≡ writingTold (encodeMessage (now (source .entry)) (now (table .entry)) count (now (buf .entry))) ⌝ }
+    ensures { λ r. ⌜
+        record { told = asWritten r; lent = now (buf .exit) }
+        ≡ writingTold (encodeMessage (now (source .entry)) (now (table .entry)) count (now (buf .entry)))
+        ⌝ }
 {
     c_words::written_words(capgauze::encode_message(source, table, count, buf))
 }
@@ -275,7 +287,10 @@ pub extern "C" fn capgauze_prepend_message(
     count: usize,
     buf: &mut [u8],
 ) -> WrittenWords
-    ensures { λ r. ⌜ record { told = asWritten r; lent = now (buf .exit) } ≡ writingTold (prependMessage (now (source .entry)) (now (table .entry)) count (now (buf .entry))) ⌝ }
+    ensures { λ r. ⌜
+        record { told = asWritten r; lent = now (buf .exit) }
+        ≡ writingTold (prependMessage (now (source .entry)) (now (table .entry)) count (now (buf .entry)))
+        ⌝ }
 {
     c_words::written_words(capgauze::prepend_message(source, table, count, buf))
 }
@@ -303,7 +318,10 @@ pub extern "C" fn capgauze_insert(
     value: u64,
     length: u64,
 ) -> Number
-    ensures { λ r. ⌜ record { told = asNumber r; lent = now (table .exit) } ≡ insertionTold (insertRecord (now (source .entry)) (now (table .entry)) count (record { tag = tag; kind = kind; value = value; length = length })) ⌝ }
+    ensures { λ r. ⌜
+        record { told = asNumber r; lent = now (table .exit) }
+        ≡ insertionTold (insertRecord (now (source .entry)) (now (table .entry)) count (record { tag = tag; kind = kind; value = value; length = length }))
+        ⌝ }
 {
     let r = Record {
         tag: tag,

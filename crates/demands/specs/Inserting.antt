@@ -122,7 +122,8 @@ module _ (t : List ℕ) (c : ℕ) (r : Record) (p : ℕ) (inside : p ≤ c) (fit
       let n : suc c ≡ p + suc (c - p) = omega arith in
       let z : p + 0 ≡ p = omega arith in
       let front = fields-same u p 0 0 (λ x g. let y : 0 + x ≡ x = omega arith in rw y (before-spot x g)) in
-      let behind = fields-same u (c - p) (suc p) p (λ x g. let y : suc p + x ≡ suc (p + x) = omega arith in rw y (behind-spot (p + x) (omega arith) (omega arith))) in
+      let behind = fields-same u (c - p) (suc p) p
+      (λ x g. let y : suc p + x ≡ suc (p + x) = omega arith in rw y (behind-spot (p + x) (omega arith) (omega arith))) in
       ap (λ (k : ℕ). fieldsFrom k u 0) n ∙ fields-split u p (suc (c - p)) 0 ∙ rw (z, front, at-spot, behind)
 
 -- ---- WHICH STAND BEFORE AND WHICH BEHIND

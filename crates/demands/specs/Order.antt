@@ -111,7 +111,15 @@ answered-first (r ∷ rs) k z e = go (answered-first rs k z) (r .holds) refl
     go ih true b = record { before = []; rule = r; behind = rs; order = refl; none = tt; holds = b; number = rw b at e }
     go ih false b =
         let a = ih (rw b at e) in
-        record { before = r ∷ a .before; rule = a .rule; behind = a .behind; order = ap (λ (xs : List Rule). r ∷ xs) (a .order); none = (b, a .none); holds = a .holds; number = a .number }
+        record {
+          before = r ∷ a .before;
+          rule = a .rule;
+          behind = a .behind;
+          order = ap (λ (xs : List Rule). r ∷ xs) (a .order);
+          none = (b, a .none);
+          holds = a .holds;
+          number = a .number;
+        }
 
 pub ordered : (rs : List Rule) (n : ℕ) → n ≡ firstOf rs → Ordered rs n
 ordered rs n e =

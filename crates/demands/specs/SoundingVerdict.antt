@@ -74,7 +74,8 @@ abbrev oneSent : List Field → Single
 oneSent gs = numberPicked (pickedOf gs)
 
 -- what is asked of one, in order: that the tag stands once, that it is a Varint, then the rest, of no field or of a number
-module _ (number : Single → ℕ) (refused : (r : Refusal) → number (single.Refused r) ≡ numberOf r) (rest : List Field → List Rule) (absent : number single.Absent ≡ firstOf (rest []))
+module _ (number : Single → ℕ) (refused : (r : Refusal) → number (single.Refused r) ≡ numberOf r) (rest : List Field → List Rule)
+    (absent : number single.Absent ≡ firstOf (rest []))
     (one : (f : Field) (v : ℕ) → f .value ≡ Varint v → number (single.Number v) ≡ firstOf (rest (f ∷ []))) where
   sent-told : (gs : List Field) → number (oneSent gs) ≡ firstOf (sentRules gs ++ rest gs)
   sent-told [] = absent

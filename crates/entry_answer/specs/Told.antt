@@ -139,7 +139,8 @@ pub record Several : Type 0 where
   pub length : ℕ
 
 abbrev pub severalTold : several.Several → Several
-severalTold (severalAs.Found n f) = record { number = 0; count = n; found = 1; kind = kindWord (f .value); value = valueWord (f .value); length = lengthWord (f .value) }
+severalTold (severalAs.Found n f) =
+    record { number = 0; count = n; found = 1; kind = kindWord (f .value); value = valueWord (f .value); length = lengthWord (f .value) }
 severalTold (severalAs.Absent n) = record { number = 0; count = n; found = 0; kind = 0; value = 0; length = 0 }
 severalTold (severalAs.Refused r) = record { number = numberOf r; count = 0; found = 0; kind = 0; value = 0; length = 0 }
 
@@ -153,7 +154,8 @@ pub record Early : Type 0 where
   pub length : ℕ
 
 abbrev pub earlyTold : earlyOf.Early → Early
-earlyTold (early.Found f n) = record { number = 0; keys = n; found = 1; kind = kindWord (f .value); value = valueWord (f .value); length = lengthWord (f .value) }
+earlyTold (early.Found f n) =
+    record { number = 0; keys = n; found = 1; kind = kindWord (f .value); value = valueWord (f .value); length = lengthWord (f .value) }
 earlyTold (early.Absent n) = record { number = 0; keys = n; found = 0; kind = 0; value = 0; length = 0 }
 earlyTold (early.Refused r) = record { number = numberOf r; keys = 0; found = 0; kind = 0; value = 0; length = 0 }
 

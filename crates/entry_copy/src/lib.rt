@@ -26,7 +26,10 @@ fn not_copied(s: &[u8]) -> Copied
 
 // The reader's refusals come first, then NoRoom for a buffer that is shorter than the message. A refusal leaves all three as they were.
 pub fn copy_message(s: &[u8], table: &mut [u64], front: &mut [u8], back: &mut [u8]) -> Copied
-    ensures { λ r. ⌜ record { answer = r; table = now (table .exit); front = now (front .exit); back = now (back .exit) } ≡ copied (now (s .entry)) (now (table .entry)) (now (front .entry)) (now (back .entry)) ⌝ }
+    ensures { λ r. ⌜
+        record { answer = r; table = now (table .exit); front = now (front .exit); back = now (back .exit) }
+        ≡ copied (now (s .entry)) (now (table .entry)) (now (front .entry)) (now (back .entry))
+        ⌝ }
 {
     if front.len() < s.len() {
         return not_copied(s);

@@ -86,5 +86,6 @@ module _ (κ : Lft) where
         use1 W (given (T′.lowered d ∷ [] ≡ T′.lowered d ∷ []) (‵ (all-own (T.the-type α .parts) (T′.the-laws α) (parts d))))
         (own-open 𝓤 H A W (T.the-type α) (T′.the-laws α) (parts d) (T′.lowered d)) $
         learn !
-        (λ _. use1 W (‵ (ownAt (T.the-type α .parts) (T′.the-laws α) 0 (d .message)) ⊛ ‵ (rest (T.the-type α .parts) (T′.the-laws α) 0 (parts d))) (own-out 𝓤 H A W (T.the-type α .parts) (T′.the-laws α) 0 (parts d)) $ split ! $
+        (λ _. use1 W (‵ (ownAt (T.the-type α .parts) (T′.the-laws α) 0 (d .message)) ⊛ ‵ (rest (T.the-type α .parts) (T′.the-laws α) 0 (parts d)))
+        (own-out 𝓤 H A W (T.the-type α .parts) (T′.the-laws α) 0 (parts d)) $ split ! $
         move ! (1 ∷ []) $ drop ! $ frame ! $ done !)

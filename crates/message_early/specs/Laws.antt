@@ -156,7 +156,8 @@ module _ (t : ℕ) (s : List ℕ) where
           small = ltb-false t (f .tag) (sym (field-tag t s (length s) p last f q e) ∙ low)
 
           next : Meets k t s p q (f .tag) → Meets (suc k) t s m p last
-          next (whole fs g u h) = whole (f ∷ fs) (rw (x, z, g)) (small, u) (turn-field s (length s) m p last k f q (ltb-true p (length s) x) e ∙ ap (inFront f) h)
+          next (whole fs g u h) =
+              whole (f ∷ fs) (rw (x, z, g)) (small, u) (turn-field s (length s) m p last k f q (ltb-true p (length s) x) e ∙ ap (inFront f) h)
           next (refused r i g h) = refused r i (rw (x, z, g)) (turn-field s (length s) m p last k f q (ltb-true p (length s) x) e ∙ ap (inFront f) h)
           next (cut fs h g u i c b d o) =
               let v = field-moves s (length s) p last f q e in

@@ -91,7 +91,8 @@ module _ {b : List ℕ} {at : ℕ} {s : List ℕ} {from n : ℕ} {buf : List ℕ
       let yl = length-part s q left (omega (arith, w .inside, w .same)) in
       let vl = length-part s (from + n - k) k (omega (arith, w .inside)) in
       let t : take k (drop (from + n - k) s) ≡ ws ++ ys = part-add s (from + n - k) k (k - left) left q (omega arith) (omega (arith, w .same)) in
-      let u : take n (drop from s) ≡ us ++ (ws ++ ys) = part-add s from n (n - k) k (from + n - k) (omega arith) (omega arith) ∙ ap (λ (l : List ℕ). us ++ l) t in
+      let u : take n (drop from s) ≡ us ++ (ws ++ ys) =
+      part-add s from n (n - k) k (from + n - k) (omega arith) (omega arith) ∙ ap (λ (l : List ℕ). us ++ l) t in
       let v = spans-part buf (at + n - k) s (from + n - k) k (omega (arith, w .inside)) (omega (arith, w .put .same, w .put .roomy)) e in
       let o : sets buf (at + n - k) (ws ++ ys) ≡ sets b at (us ++ (ws ++ ys)) =
       over b buf at p (at + n - k) us ws ys (omega (arith, ul)) (omega (arith, w .put .next, wl)) (rw u at (w .put .rest)) in

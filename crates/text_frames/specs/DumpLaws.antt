@@ -51,7 +51,15 @@ pub record Filled (block out₀ : List ℕ) (used₀ n₀ : ℕ) (ks₀ rest₀ 
 
 pub fill-start : (block : List ℕ) {line : List ℕ} {chars : ℕ} (n at : ℕ) (out : List ℕ) (used : ℕ) {ks : List ℕ} → Keeps line chars ks
     → Filled block out used n ks (drop at block) line chars n at out used
-fill-start block n at out used {ks} w = record { text = []; ks = ks; keeps = w; place = omega arith; put = refl; prints = record { same = λ later. refl; counts = λ later. refl } }
+fill-start block n at out used {ks} w =
+    record {
+      text = [];
+      ks = ks;
+      keeps = w;
+      place = omega arith;
+      put = refl;
+      prints = record { same = λ later. refl; counts = λ later. refl };
+    }
 
 -- what follows a line in its block
 after-line : (block : List ℕ) (at : ℕ) {line : List ℕ} {chars next k : ℕ} {line′ : List ℕ} (w : Whole (drop at block) at line chars next k line′)
@@ -106,8 +114,9 @@ module _ {block out₀ : List ℕ} {used₀ n₀ : ℕ} {ks₀ rest₀ line : Li
           same = λ later. f .prints .same later
               ∙ ap (λ (ls : List (List ℕ)). f .text ++ printedFrom n ls) (lines-ended x (f .ks) later)
               ∙ rw (drop-of-length-le block {i = length block} (omega arith));
-          counts =
-              λ later. f .prints .counts later ∙ ap (numberAfter n) (lines-ended x (f .ks) later) ∙ rw (drop-of-length-le block {i = length block} (omega arith));
+          counts = λ later. f .prints .counts later
+              ∙ ap (numberAfter n) (lines-ended x (f .ks) later)
+              ∙ rw (drop-of-length-le block {i = length block} (omega arith));
         };
       }
 

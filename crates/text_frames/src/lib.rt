@@ -107,7 +107,10 @@ fn put_value(out: &mut [u8], at: usize, message: &[u8], r: Record) -> usize
 
 fn put_field(out: &mut [u8], at: usize, head: &[u8], message: &[u8], r: Record) -> usize
     requires { ⌜ Lined (now out) at (now head) (now message) r ⌝ }
-    ensures { λ x. ⌜ record { next = x; buf = now (out .exit) } ≡ putAt (now (out .entry)) at (fieldText (now (head .entry)) (itemOf (now (message .entry)) (fieldIn r))) ⌝ }
+    ensures { λ x. ⌜
+        record { next = x; buf = now (out .exit) }
+        ≡ putAt (now (out .entry)) at (fieldText (now (head .entry)) (itemOf (now (message .entry)) (fieldIn r)))
+        ⌝ }
 {
     let p = place::put_part(out, at, head, 0, head.len());
     let q = put_number(out, p, r.tag);
@@ -139,7 +142,10 @@ fn put_fields(
     count: usize,
 ) -> usize
     requires { ⌜ Listed (now out) at (now head) (now message) (now table) count ⌝ }
-    ensures { λ r. ⌜ record { next = r; buf = now (out .exit) } ≡ putAt (now (out .entry)) at (fieldsText (now (head .entry)) (items (now (message .entry)) (fieldsFrom count (now (table .entry)) 0))) ⌝ }
+    ensures { λ r. ⌜
+        record { next = r; buf = now (out .exit) }
+        ≡ putAt (now (out .entry)) at (fieldsText (now (head .entry)) (items (now (message .entry)) (fieldsFrom count (now (table .entry)) 0)))
+        ⌝ }
 {
     let mut p = at;
     let mut i = 0;
@@ -161,7 +167,12 @@ fn put_accepted(
     count: usize,
 ) -> usize
     requires { ⌜ Closed (now out) at n (now message) (now table) count ⌝ }
-    ensures { λ r. ⌜ record { next = r; buf = now (out .exit) } ≡ putAt (now (out .entry)) at (fieldsText (headed n wordF) (items (now (message .entry)) (fieldsFrom count (now (table .entry)) 0)) ++ told n wordOK (count ∷ length (now (message .entry)) ∷ [])) ⌝ }
+    ensures { λ r. ⌜
+        record { next = r; buf = now (out .exit) }
+        ≡ putAt (now (out .entry)) at (
+        fieldsText (headed n wordF) (items (now (message .entry)) (fieldsFrom count (now (table .entry)) 0))
+        ++ told n wordOK (count ∷ length (now (message .entry)) ∷ []))
+        ⌝ }
 {
     let mut head = [0u8; 22];
     let k = put_head(&mut head, 0, n, b" F");
@@ -198,7 +209,10 @@ pub fn put_frame(
     bytes: &mut [u8],
     table: &mut [u64],
 ) -> usize
-    ensures { λ r. ⌜ record { next = r; out = now (out .exit); bytes = now (bytes .exit); table = now (table .exit) } ≡ printFrame (now (out .entry)) at n (now (line .entry)) chars (now (bytes .entry)) (now (table .entry)) ⌝ }
+    ensures { λ r. ⌜
+        record { next = r; out = now (out .exit); bytes = now (bytes .exit); table = now (table .exit) }
+        ≡ printFrame (now (out .entry)) at n (now (line .entry)) chars (now (bytes .entry)) (now (table .entry))
+        ⌝ }
 {
     if out.len() < FRAME_ROOM {
         return at;

@@ -54,7 +54,8 @@ module _ {block : List ℕ} {at : ℕ} {line₀ : List ℕ} {chars : ℕ} {line 
     unfolding takes
     take-whole e = rw (drop-cons block i 0 h, eq-eqb (getD block i 0) 10 e) at (w .rest)
 
-    pub take-more : (getD block i 0 ≡ 10 → ⊥) → {l : List ℕ} {m : ℕ} → l ≡ set line n (getD block i 0) → m ≡ countUp n → Taking-on block at line₀ chars l (i + 1) m
+    pub take-more : (getD block i 0 ≡ 10 → ⊥) → {l : List ℕ} {m : ℕ} → l ≡ set line n (getD block i 0) → m ≡ countUp n
+        → Taking-on block at line₀ chars l (i + 1) m
     unfolding takes
     take-more e {l} {m} p q =
         let d : drop (i + 1) block ≡ drop (suc i) block = rw (add-one i) in

@@ -82,7 +82,8 @@ ended [] at line chars k line′ e =
 ended (c ∷ rest) at line chars k line′ e = go (eqb c 10) refl (ended rest (at + 1) (set line chars c) (countUp chars) k line′)
   where
     go : (b : Bool) → eqb c 10 ≡ b
-        → (record { answer = Part k; line = line′ } ≡ takes rest (at + 1) (set line chars c) (countUp chars) → Ended rest (set line chars c) (countUp chars) k line′)
+        → (record { answer = Part k; line = line′ } ≡ takes rest (at + 1) (set line chars c) (countUp chars)
+        → Ended rest (set line chars c) (countUp chars) k line′)
         → Ended (c ∷ rest) line chars k line′
     go true b ih =
         let q : _≡_ {A = Taking} (record { answer = Part k; line = line′ }) (record { answer = Line (at + 1) chars; line = line }) = simp b at e in

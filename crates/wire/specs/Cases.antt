@@ -35,8 +35,9 @@ abbrev pub All : {A : Type 0} → (A → Type 0) → List A → Type 0
 All P [] = Unit {0}
 All P (x ∷ xs) = P x × All P xs
 
-abbrev pub table : List Case
-table =
+-- numbers
+abbrev numbers : List Case
+numbers =
     Encodes 127 (0x7f ∷ [])
     ∷ Encodes 128 (0x80 ∷ 0x00 ∷ [])
     ∷ Encodes 16511 (0xff ∷ 0x7f ∷ [])
@@ -45,7 +46,12 @@ table =
     ∷ Encodes 0x102_0408_1020_4080 (replicate 8 0x80 ++ (0x00 ∷ []))
     ∷ Encodes (2 ^ 64 - 1) (0xff ∷ replicate 8 0xfe)
     ∷ Varint (0x80 ∷ 0xff ∷ replicate 7 0xfe) (varintFound.Refused InvalidVarint)
-    ∷ Reads [] 0 0 (Fields [])
+    ∷ []
+
+-- messages, and fields passed over
+abbrev messages : List Case
+messages =
+    Reads [] 0 0 (Fields [])
     ∷ Reads (0xfc ∷ 0xfe ∷ 0xfe ∷ 0xfe ∷ 0x3e ∷ 0x00 ∷ []) 0 6 (Fields (record { tag = 4294967295; value = val.Varint 0 } ∷ []))
     ∷ Reads (0x80 ∷ 0xff ∷ 0xfe ∷ 0xfe ∷ 0x3e ∷ 0x00 ∷ []) 0 6 (Refused TagOverflowed 0)
     ∷ Reads (0xfc ∷ 0xfe ∷ 0xfe ∷ 0xfe ∷ 0x3e ∷ 0x00 ∷ 0x04 ∷ 0x00 ∷ []) 0 8 (Refused TagOverflowed 6)
@@ -56,8 +62,12 @@ table =
     ∷ Reads (0x01 ∷ replicate 9 0xff) 0 5 (Refused InvalidVarint 0)
     ∷ Skips (0x01 ∷ replicate 9 0xff) 5 1 wireType.LengthDelimited (reached.Refused Truncated)
     ∷ Skips (0x05 ∷ 0x00 ∷ 0x06 ∷ 0x04 ∷ 0x07 ∷ []) 5 0 wireType.Varint (reached.To 3)
-    -- and a case each for rules of the end, of fixed bytes, of skipping and of places
-    ∷ Reads (0x00 ∷ replicate 9 0xff) 0 9 (Refused Truncated 0)
+    ∷ []
+
+-- a case each for rules of the end, of fixed bytes, of skipping and of places
+abbrev edges : List Case
+edges =
+    Reads (0x00 ∷ replicate 9 0xff) 0 9 (Refused Truncated 0)
     ∷ Reads (0x01 ∷ 0x00 ∷ []) 0 2 (Fields (record { tag = 0; value = val.LengthDelimited 2 0 } ∷ []))
     ∷ Reads (0x01 ∷ 0x00 ∷ []) 0 1 (Refused Truncated 0)
     ∷ Reads (0x01 ∷ 0x02 ∷ 0xaa ∷ []) 0 3 (Refused Truncated 0)
@@ -76,61 +86,26 @@ table =
     ∷ Skips (0x05 ∷ []) 0 0 wireType.Varint (reached.To 1)
     ∷ []
 
+abbrev pub table : List Case
+table = numbers ++ (messages ++ edges)
+
+-- what holds of two lists holds of both in one
+joined : (xs ys : List Case) → All Right xs → All Right ys → All Right (xs ++ ys)
+joined [] ys h g = g
+joined (x ∷ xs) ys h g = (h .0, joined xs ys (h .1) g)
+
+numbers-right : All Right numbers
+unfolding encode varintAt fieldAt readMessage pastAt skipAt
+numbers-right = ((refl, refl), ((refl, refl), ((refl, refl), ((refl, refl), ((refl, refl), ((refl, refl), ((refl, refl), (refl, tt))))))))
+
+messages-right : All Right messages
+unfolding encode varintAt fieldAt readMessage pastAt skipAt
+messages-right = (refl, (refl, (refl, (refl, (refl, (refl, (refl, (refl, (refl, (refl, (refl, tt)))))))))))
+
+edges-right : All Right edges
+unfolding encode varintAt fieldAt readMessage pastAt skipAt
+edges-right = (refl, (refl, (refl, (refl, (refl, (refl, (refl, (refl, (refl, (refl, (refl, (refl, (refl, (refl, (refl, (refl, (refl, tt)))))))))))))))))
+
 -- THE CASES ARE RIGHT: each is computed
 pub cases : All Right table
-unfolding encode varintAt fieldAt readMessage pastAt skipAt
-cases = (
-  (refl, refl),
-  (
-    (refl, refl),
-    (
-      (refl, refl),
-      (
-        (refl, refl),
-        (
-          (refl, refl),
-          (
-            (refl, refl),
-            (
-              (refl, refl),
-              (
-                refl,
-                (
-                  refl,
-                  (
-                    refl,
-                    (
-                      refl,
-                      (
-                        refl,
-                        (
-                          refl,
-                          (
-                            refl,
-                            (
-                              refl,
-                              (
-                                refl,
-                                (
-                                  refl,
-                                  (
-                                    refl,
-                                    (refl, (refl, (refl, (refl, (refl, (refl, (refl, (refl, (refl, (refl, (refl, (refl, (refl, (refl, (refl, (refl, (refl, (refl, tt)))))))))))))))))),
-                                  ),
-                                ),
-                              ),
-                            ),
-                          ),
-                        ),
-                      ),
-                    ),
-                  ),
-                ),
-              ),
-            ),
-          ),
-        ),
-      ),
-    ),
-  ),
-)
+cases = joined numbers (messages ++ edges) numbers-right (joined messages edges messages-right edges-right)

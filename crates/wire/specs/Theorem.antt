@@ -144,7 +144,8 @@ module _ (s : List ℕ) (start e : ℕ) where
       let n = e - start in
       let len : length (part s start e) ≡ n = length-take-le n (drop start s) (omega (arith, length-drop start s)) in
       let j : n ≡ length (written is) = sym len ∙ ap length (w .bytes) in
-      let c : drop start s ≡ written is ++ drop n (drop start s) = sym (take-append-drop n (drop start s)) ∙ ap (λ (l : List ℕ). l ++ drop n (drop start s)) (w .bytes) in
+      let c : drop start s ≡ written is ++ drop n (drop start s) =
+      sym (take-append-drop n (drop start s)) ∙ ap (λ (l : List ℕ). l ++ drop n (drop start s)) (w .bytes) in
       message-back n s e start start 0 is (drop n (drop start s)) c (w .good) (omega (arith, j)) (omega arith)
 
   -- there is no other

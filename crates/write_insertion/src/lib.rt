@@ -54,7 +54,10 @@ pub fn insert_record(
     added: Record,
     most: u32,
 ) -> Inserted
-    ensures { λ r. ⌜ record { answer = r; table = now (table .exit) } ≡ inserts (now (table .entry)) count added (aim most (now (source .entry)) (now (table .entry)) count added) ⌝ }
+    ensures { λ r. ⌜
+        record { answer = r; table = now (table .exit) }
+        ≡ inserts (now (table .entry)) count added (aim most (now (source .entry)) (now (table .entry)) count added)
+        ⌝ }
 {
     match write_message::weigh(source, table, count, most) {
         Weighed::First(why, i) => Inserted::Refused(why, i),

@@ -46,7 +46,10 @@ fn spend(left: usize, n: usize) -> usize
 // All tests but that of the output, and what the records leave of a budget of one byte more than most. It falls to 0 and stays there,
 // so that nothing wraps, however often payloads overlap.
 pub fn weigh(source: &[u8], table: &[u64], count: usize, most: u32) -> Weighed
-    ensures { λ r. ⌜ r ≡ spent (most + 1) (length (message (now (source .entry)) (now (table .entry)) count)) (checked most (now (source .entry)) (now (table .entry)) count) ⌝ }
+    ensures { λ r. ⌜
+        r
+        ≡ spent (most + 1) (length (message (now (source .entry)) (now (table .entry)) count)) (checked most (now (source .entry)) (now (table .entry)) count)
+        ⌝ }
 {
     if (most as usize) < source.len() {
         return Weighed::First(Refusal::TooLong, 0);

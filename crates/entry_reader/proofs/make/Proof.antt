@@ -41,7 +41,8 @@ abbrev stayed : Stays (make.ended .signature .params) (make.ended .kept)
 stayed = (stay-none-slice (0 ∷ []) tt (plain (λ _. u8)) yes, (stay-none (λ _. usize) yes, (stay-none (λ _. usize) yes, (stay-none (λ _. u32) yes, tt))))
 
 -- d is the reader that is made of what is passed
-module _ {M : Type 1} (𝓤 : URA M) (H : Heap 𝓤) (A : Atoms 𝓤) (W : Given 𝓤 H A) (mem : Memory → SProp 𝓤) (run : Routine → Fun 𝓤) (κ : Lft) (q : Share) (d : Reader) (f : Fitting d) where
+module _ {M : Type 1} (𝓤 : URA M) (H : Heap 𝓤) (A : Atoms 𝓤) (W : Given 𝓤 H A) (mem : Memory → SProp 𝓤) (run : Routine → Fun 𝓤)
+    (κ : Lft) (q : Share) (d : Reader) (f : Fitting d) where
   abbrev v : Val
   v = machine (d .message)
 

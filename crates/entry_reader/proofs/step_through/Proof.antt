@@ -68,7 +68,8 @@ module _ {M : Type 1} (𝓤 : URA M) (H : Heap 𝓤) (A : Atoms 𝓤) (mem : Mem
   Take = tripleOf 𝓤 H A take.signature (take.spec 𝓤 H A mem run)
 
 -- d is the reader that is made of what is passed
-module _ {M : Type 1} (𝓤 : URA M) (H : Heap 𝓤) (A : Atoms 𝓤) (W : Given 𝓤 H A) (mem : Memory → SProp 𝓤) (run : Routine → Fun 𝓤) (κ : Lft) (q : Share) (d : Reader) (f : Fitting d) where
+module _ {M : Type 1} (𝓤 : URA M) (H : Heap 𝓤) (A : Atoms 𝓤) (W : Given 𝓤 H A) (mem : Memory → SProp 𝓤) (run : Routine → Fun 𝓤)
+    (κ : Lft) (q : Share) (d : Reader) (f : Fitting d) where
   abbrev v : Val
   v = machine (d .message)
 
@@ -142,7 +143,8 @@ module _ {M : Type 1} (𝓤 : URA M) (H : Heap 𝓤) (A : Atoms 𝓤) (W : Given
         use1 W
         (later
         (some
-        (λ (r : Reader). ((‵ (flft κ q) ⊛ ‵ ftrue) ⊛ ‵ (row (κ, tt) .own r (u ∷ []))) ⊛ raw (ensured 𝓤 H A make.ended (make.clauses 𝓤 H A mem run) (κ, tt) values tt r))))
+        (λ (r : Reader). ((‵ (flft κ q) ⊛ ‵ ftrue) ⊛ ‵ (row (κ, tt) .own r (u ∷ [])))
+        ⊛ raw (ensured 𝓤 H A make.ended (make.clauses 𝓤 H A mem run) (κ, tt) values tt r))))
         (id⊢ 𝓤 _) $ await ! tt $ pick ! (λ r.
         split ! $ move ! (1 ∷ []) $ use1 W (raw (fact 𝓤 (r ≡ d))) (made r) $ heard ! (r ≡ d) (λ e. split ! $ move ! (1 ∷ []) $
         -- the reader, the token and the slice stand in front of the locals
@@ -153,7 +155,8 @@ module _ {M : Type 1} (𝓤 : URA M) (H : Heap 𝓤) (A : Atoms 𝓤) (W : Given
         use1 W
         (later
         (some
-        (λ (t : Step). ((‵ (flft κ q) ⊛ ‵ ftrue) ⊛ ‵ (S.the-row .own t (w ∷ []))) ⊛ raw (ensured 𝓤 H A take.ended (take.clauses 𝓤 H A mem run) (κ, tt) (r, tt) tt t))))
+        (λ (t : Step). ((‵ (flft κ q) ⊛ ‵ ftrue) ⊛ ‵ (S.the-row .own t (w ∷ [])))
+        ⊛ raw (ensured 𝓤 H A take.ended (take.clauses 𝓤 H A mem run) (κ, tt) (r, tt) tt t))))
         (id⊢ 𝓤 _) $ await ! tt $ pick ! (λ t.
         split ! $ move ! (1 ∷ []) $ use1 W (raw (fact 𝓤 (Stepped r t))) (taken r t) $ heard ! (Stepped r t) (λ g. split ! $ move ! (1 ∷ []) $
         -- the step, the token and the slice stand in front of the locals

@@ -76,7 +76,8 @@ moves : (c : tie.After-known-told2 Inv-loop μ-loop) → let q = c .before .f .g
 moves c = let m = field-moves _ _ _ _ _ _ (sight-field _ _ _ _ _ _ (turn c)) in (m .0, m .1)
 
 going : (c : tie.After-known-told2 Inv-loop μ-loop)
-    → let l = c .before .before .before .before .before .loop in let a = c .before .before .before .before .before .before .before .args in let f = c .before .f .given .0 in
+    → let l = c .before .before .before .before .before .loop in let a = c .before .before .before .before .before .before .before .args in
+    let f = c .before .f .given .0 in
     Going (a .tag) (a .s .now) (f .1 .0) (f .0 .tag) (l .inv .0 ++ f .0 ∷ [])
 going c = let l = c .before .before .before .before in going-field (l .before .loop .inv .1) (l .loop-test .taken) _ _ (turn c)
 

@@ -50,13 +50,15 @@ add-i c =
 
 loop-less : tie.Need-loop-less Inv-loop μ-loop
 loop-less c =
-    let n = further (turn (c .before .before .before .before .before .before)) (c .before .before .before .before .before .known-varint .ensures) (c .before .before .before .before .known-value .ensures) in
-    omega (arith, n .0, c .before .before .before .before .before .before .loop-test .taken)
+    let v = c .before .before .before .before in
+    let n = further (turn (v .before .before)) (v .before .known-varint .ensures) (v .known-value .ensures) in
+    omega (arith, n .0, v .before .before .loop-test .taken)
 
 loop-again : tie.Need-loop-again Inv-loop μ-loop
 loop-again c =
-    let t = fill-turn (turn (c .before .before .before .before .before .before)) (c .before .before .before .before .before .known-varint .ensures) (c .before .before .before .before .known-value .ensures) _ (c .before .before .store .ensures) in
-    (t .0, t .1 ∙ c .before .before .before .before .before .before .before .loop .inv .1)
+    let v = c .before .before .before .before in
+    let t = fill-turn (turn (v .before .before)) (v .before .known-varint .ensures) (v .known-value .ensures) _ (c .before .before .store .ensures) in
+    (t .0, t .1 ∙ v .before .before .before .loop .inv .1)
 
 same-length : tie.Need-same-length Inv-loop μ-loop
 same-length c = c .before .loop .inv .1

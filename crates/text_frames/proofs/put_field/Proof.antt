@@ -68,8 +68,12 @@ put-char-requires c κs =
 
 put-value-requires : tie.Need-put-value-requires
 put-value-requires c κs =
-    let s = c .before .before .before .before .before .before .before .before .before .before .before .before .before .before .before .before .before .before .before .before in
-    record { room = has-room (valueText (shown (s .args .message .now) (fieldIn (s .args .r) .value))) (10 ∷ []) (parted (c .before .before .before)); inside = s .pre .inside }
+    let p = c .before .before .before in
+    let s = p .before .before .before .before .before .before .before .before .before .before .before .before .before .before .before .before .before in
+    record {
+      room = has-room (valueText (shown (s .args .message .now) (fieldIn (s .args .r) .value))) (10 ∷ []) (parted p);
+      inside = s .pre .inside;
+    }
 
 put-char-requires-2 : tie.Need-put-char-requires-2
 put-char-requires-2 c κs = last-room _ (valued (c .before .before .before))

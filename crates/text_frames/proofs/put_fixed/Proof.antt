@@ -30,9 +30,10 @@ same-length c = search needs
 
 returns : tie.Need-returns
 returns c =
-    let a = c .before .before .before .before .before .before .before .before .before .before in
+    let p = c .before .before .before .before .before .before .before in
+    let a = p .before .before .before in
     let k = length-fixed (a .args .size) (a .args .v) in
-    let f = front-is _ (fixed (a .args .size) (a .args .v)) (omega (arith, a .pre .0)) (c .before .before .before .before .before .before .before .put-fixed .ensures) (a .args .size) (sym k) in
+    let f = front-is _ (fixed (a .args .size) (a .args .v)) (omega (arith, a .pre .0)) (p .put-fixed .ensures) (a .args .size) (sym k) in
     rw (← f) (c .before .before .put-hex-bytes .ensures)
 
 pub put-fixed-spec : {M : Type 1} → statement M

@@ -46,9 +46,10 @@ number-len-requires c κs = search needs
 
 add-t15 : tie.Need-add-t15
 add-t15 c =
-    let far = c .before .before .before .before .before .before .before .before .before .before in
+    let n = c .before .before .before .before .before in
+    let far = n .before .before .before .before .before in
     let a = far .args in
-    let v = value-good (a .size) (a .r .kind) (a .r .value) (a .r .length) _ (c .before .before .before .before .before .before .before .weigh-value .ensures) (c .before .before .before .before .before .n .given .1) in
+    let v = value-good (a .size) (a .r .kind) (a .r .value) (a .r .length) _ (n .before .before .weigh-value .ensures) (n .n .given .1) in
     omega (
       arith,
       c .number-len .ensures,
@@ -66,7 +67,8 @@ returns-3 c =
 returns-4 : tie.Need-returns-4
 unfolding recordSize
 returns-4 c =
-    let v = value-good _ _ _ _ _ (c .before .before .before .before .before .before .before .weigh-value .ensures) (c .before .before .before .before .before .n .given .1) in
+    let n = c .before .before .before .before .before in
+    let v = value-good _ _ _ _ _ (n .before .before .weigh-value .ensures) (n .n .given .1) in
     rw (c .number-len .ensures, v .1) (sym (weigh-fine _ _ _ (judge-good _ _ _ (sound (c .before .before .before)) (c .before .before .if2 .left))))
 
 pub weigh-record-spec : {M : Type 1} → statement M
