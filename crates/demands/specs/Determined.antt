@@ -42,6 +42,7 @@ pub use Rattle.message_table.proofs.Only.{read-into-one as table-read-into-one}
 pub use Rattle.message_payload.proofs.Only.{payload-span-one as payload-payload-span-one}
 -- one record
 pub use Rattle.write_record.proofs.Only.{is-good-one as record-is-good-one}
+pub use Rattle.write_record.proofs.Only.{record-at-one as record-record-at-one}
 pub use Rattle.write_record.proofs.Only.{weigh-record-one as record-weigh-record-one}
 -- tables written
 pub use Rattle.write_message.proofs.Only.{weigh-one as writer-weigh-one}

@@ -10,7 +10,8 @@ use Rattle.wire.specs.Limits.{recordWords}
 use Rattle.wire.specs.Fixed.{fixed}
 use Rattle.wire.specs.Written.{Item, contentKind}
 use Rattle.wire.specs.Places.{shown, itemOf, items}
-use Rattle.wire.specs.Table.{kindWord, valueOf, recordOf, records, recordAt, fieldIn, fieldsFrom, value-words, length-records, fields-records}
+use Rattle.write_record.specs.Taken.{recordIn, record-there}
+use Rattle.wire.specs.Table.{room, kindWord, valueOf, recordOf, records, recordAt, fieldIn, fieldsFrom, value-words, length-records, fields-records}
 use Rattle.wire.specs.declared.Value.{Value}
 use Rattle.wire.specs.declared.Value.the-variants as val
 use Rattle.wire.specs.declared.Field.{Field}
@@ -158,13 +159,15 @@ list-start {out} {at} {head} {s} l =
     }
 
 module _ {out : List ℕ} {at : ℕ} {head s table : List ℕ} {count : ℕ} {buf : List ℕ} {p i : ℕ} (w : Listing out at head s table count buf p i) where
-  pub list-words : i < count → recordWords * i + recordWords ≤ length table
+  list-words : i < count → i < room table
   list-words h =
       omega (arith, w .has .many, ap length (w .has .listed), length-append (records (w .has .fields)) (w .has .rest), length-records (w .has .fields))
 
-  module _ (h : i < count) {r : Record} (e : r ≡ recordAt table i) where
+  module _ (h : i < count) {r : Record} (e : r ≡ recordIn table i) where
     next : Next (w .has .fields) i r
-    next = next-of (w .has .fields) (w .has .rest) i r (omega (arith, w .has .many)) (e ∙ ap (λ (t : List ℕ). recordAt t i) (w .has .listed))
+    next =
+        next-of (w .has .fields) (w .has .rest) i r (omega (arith, w .has .many))
+        (e ∙ record-there table i (list-words h) ∙ ap (λ (t : List ℕ). recordAt t i) (w .has .listed))
 
     next-put : Putting out at (fieldsText head (items s (w .has .fields))) buf p
         (fieldText head (itemOf s (fieldIn r)) ++ fieldsText head (items s (next .rest)))

@@ -4,9 +4,8 @@ ghost use mathlib.Core.List.{[], _∷_, _++_};
 ghost use Prim.Native.Nat.{_+_, _*_, _≤_};
 ghost use lib.ListN.{length};
 ghost use Rattle.wire.specs.Fixed.{fixed};
-ghost use Rattle.wire.specs.Limits.{recordWords};
 ghost use Rattle.wire.specs.Places.{shown, itemOf, items};
-ghost use Rattle.wire.specs.Table.{recordAt, fieldIn, fieldsFrom};
+ghost use Rattle.wire.specs.Table.{fieldIn, fieldsFrom};
 ghost use Rattle.place.specs.Place.{putAt};
 ghost use Rattle.text_digits.specs.Digits.{decimal, hexed};
 ghost use Rattle.text_frames.specs.Text.{headed, wordF, wordOK, told, bytesText, valueText, fieldText, fieldsText};
@@ -120,19 +119,6 @@ fn put_field(out: &mut [u8], at: usize, head: &[u8], message: &[u8], r: Record) 
     put_char(out, w, b'\n')
 }
 
-fn record_at(table: &[u64], i: usize) -> Record
-    requires { ⌜ recordWords * i + recordWords ≤ length (now table) ⌝ }
-    ensures { λ r. ⌜ r ≡ recordAt (now (table .entry)) i ⌝ }
-{
-    let j = wire::RECORD_WORDS * i;
-    Record {
-        tag: table[j],
-        kind: table[j + 1],
-        value: table[j + 2],
-        length: table[j + 3],
-    }
-}
-
 fn put_fields(
     out: &mut [u8],
     at: usize,
@@ -150,7 +136,7 @@ fn put_fields(
     let mut p = at;
     let mut i = 0;
     while i < count {
-        p = put_field(out, p, head, message, record_at(table, i));
+        p = put_field(out, p, head, message, write_record::record_at(table, i));
         i += 1;
     }
     p

@@ -10,6 +10,7 @@ use Rattle.wire.specs.Table.{room, recordAt}
 use Rattle.write_record.specs.Records.{tagBefore, Judged, Fine, Bad, judge, AllFine, First, tested, checked, recordBytes, recordSize, weigh, run, message}
 use Rattle.write_record.specs.RecordLaws.{Sound, good-sound, judge-fine, weighed-bad, weighed-bytes, first-stays, record-size, run-first}
 use Rattle.write_record.specs.RecordLaws.{message-last, message-cut}
+use Rattle.write_record.specs.Taken.{recordIn, record-there}
 use Rattle.write_message.specs.Writing.{spent}
 use Rattle.write_message.specs.WritingLaws.{checked-long, checked-count, checked-tests, Ready, ready-at}
 use Rattle.wire.specs.declared.Record.{Record}
@@ -43,9 +44,12 @@ weigh-start most s t c g h = record { short = g; count = h; index = omega arith;
 
 module _ {most : ℕ} {s t : List ℕ} {c left prev i : ℕ} (w : Weighing most s t c left prev i) where
   -- as the calls of a turn say it: the record r, and what is said of it, x
-  module _ {r : Record} {x : Weight} (h : i < c) (q : r ≡ recordAt t i) (e : x ≡ weigh (length s) prev r) where
+  module _ {r : Record} {x : Weight} (h : i < c) (q : r ≡ recordIn t i) (e : x ≡ weigh (length s) prev r) where
+    is : r ≡ recordAt t i
+    is = q ∙ record-there t i (omega (arith, w .count))
+
     judged : (j : Judged) → judge (length s) prev r ≡ j → judge (length s) (tagBefore t i) (recordAt t i) ≡ j
-    judged j f = rw (← q, ← w .before) f
+    judged j f = rw (← is, ← w .before) f
 
     pub turn-bad : (why : Refusal) → x ≡ weight.Bad why → weighed.First why i ≡ spent (most + 1) (length (message s t c)) (checked most s t c)
     turn-bad why b =
@@ -61,12 +65,12 @@ module _ {most : ℕ} {s t : List ℕ} {c left prev i : ℕ} (w : Weighing most 
         let j = judged Fine (f .0) in
         let n = recordBytes s (tagBefore t i) (recordAt t i) in
         let g = good-sound (length s) r (judge-fine (length s) prev r (f .0) .0) in
-        let m : length n ≡ recordSize prev r = rw (← q, ← w .before) (record-size s prev r g) in
+        let m : length n ≡ recordSize prev r = rw (← is, ← w .before) (record-size s prev r g) in
         record {
           short = w .short;
           count = w .count;
           index = omega arith;
-          before = rw (add-one i, q);
+          before = rw (add-one i, is);
           fine = rw (add-one i, w .fine, j);
           held = rw (add-one i) (omega (arith, w .held, ap length (message-last s t i), length-append (message s t i) n, m, f .1));
         }

@@ -5,7 +5,7 @@ ghost use Prim.Native.Nat.{_+_, _-_, _*_, _≤_, _<_, _^_};
 ghost use lib.ListN.{length};
 ghost use Rattle.place.specs.Spans.{Spans};
 ghost use Rattle.wire.specs.Varint.{encode};
-ghost use Rattle.wire.specs.Table.{room, recordAt};
+ghost use Rattle.wire.specs.Table.{room};
 ghost use Rattle.write_record.specs.Records.{tagBefore, checked, valueBytes, recordBytes, message};
 ghost use Rattle.write_record.specs.RecordLaws.{Sound};
 ghost use Rattle.write_message.specs.Writing.{plan, measured, fitted, spent, Writing, front, back};
@@ -16,20 +16,6 @@ use wire::Refusal;
 use wire::Weighed;
 use wire::Weight;
 use wire::Written;
-
-// A record's words.
-fn load(table: &[u64], i: usize) -> Record
-    requires { ⌜ i < room (now table) ⌝ }
-    ensures { λ r. ⌜ r ≡ recordAt (now (table .entry)) i ⌝ }
-{
-    let at = RECORD_WORDS * i;
-    Record {
-        tag: table[at],
-        kind: table[at + 1],
-        value: table[at + 2],
-        length: table[at + 3],
-    }
-}
 
 // ---- measured
 
@@ -63,7 +49,7 @@ pub fn weigh(source: &[u8], table: &[u64], count: usize, most: u32) -> Weighed
     let mut prev: u64 = 0;
     let mut i: usize = 0;
     while i < count {
-        let r = load(table, i);
+        let r = write_record::record_at(table, i);
         match write_record::weigh_record(size, prev, r) {
             Weight::Bad(why) => return Weighed::First(why, i),
             Weight::Bytes(n) => left = spend(left, n),
@@ -143,15 +129,18 @@ fn put_record(buf: &mut [u8], at: usize, source: &[u8], prev: u64, r: Record) ->
     put_value(buf, next, source, r)
 }
 
+// INLINE: the part of the table that has the records says to the compiler that each is there, so that record_at's test is left out. With the table itself
+// writing takes 1.02 to 1.05 times the instructions, prepending 1.03 to 1.09 times.
 fn put_all(buf: &mut [u8], source: &[u8], table: &[u64], count: usize) -> usize
     requires { ⌜ Ready (now source) (now table) count × (length (message (now source) (now table) count) ≤ length (now buf)) ⌝ }
     ensures { λ n. ⌜ Spans (now (buf .entry)) 0 n (message (now (source .entry)) (now (table .entry)) count) (now (buf .exit)) ⌝ }
 {
+    let records = &table[0..RECORD_WORDS * count];
     let mut at: usize = 0;
     let mut prev: u64 = 0;
     let mut i: usize = 0;
     while i < count {
-        let r = load(table, i);
+        let r = write_record::record_at(records, i);
         at = put_record(buf, at, source, prev, r);
         prev = r.tag;
         i += 1;
@@ -227,11 +216,12 @@ fn prepend_all(buf: &mut [u8], source: &[u8], table: &[u64], count: usize) -> us
     requires { ⌜ Ready (now source) (now table) count × (length (message (now source) (now table) count) ≤ length (now buf)) ⌝ }
     ensures { λ n. ⌜ Spans (now (buf .entry)) n (length (now (buf .entry))) (message (now (source .entry)) (now (table .entry)) count) (now (buf .exit)) ⌝ }
 {
+    let records = &table[0..RECORD_WORDS * count];
     let mut end = buf.len();
     let mut i = count;
     while 0 < i {
         i -= 1;
-        let r = load(table, i);
+        let r = write_record::record_at(records, i);
         let prev = tag_before(table, i);
         end = prepend_record(buf, end, source, prev, r);
     }

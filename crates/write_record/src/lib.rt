@@ -1,14 +1,38 @@
-// One record over a source: whether it is good, and how many bytes it is written as.
+// One record: taken from a table; over a source, whether it is good, and how many bytes it is written as.
 // From src/encoding/mod.rs (RuntimeTagMeasurer) and opaque.rs (value_encoded_len) of bilrost; the tests are ours.
 ghost use mathlib.Core.Path.{_≡_};
 ghost use lib.ListN.{length};
 ghost use Rattle.wire.specs.Varint.{encode};
 ghost use Rattle.wire.specs.Table.{good};
 ghost use Rattle.write_record.specs.Records.{weighValue, weigh};
+ghost use Rattle.write_record.specs.Taken.{recordIn};
 use wire::LAST_TAG;
+use wire::RECORD_WORDS;
 use wire::Record;
 use wire::Refusal;
 use wire::Weight;
+
+// Record i of a table; all words 0 where the table has no room for it.
+// INLINE: a caller that tests its count against the table's records, ahead of its loop, pays for no test here.
+pub fn record_at(table: &[u64], i: usize) -> Record
+    ensures { λ r. ⌜ r ≡ recordIn (now (table .entry)) i ⌝ }
+{
+    if i < table.len() / RECORD_WORDS {
+        let at = RECORD_WORDS * i;
+        return Record {
+            tag: table[at],
+            kind: table[at + 1],
+            value: table[at + 2],
+            length: table[at + 3],
+        };
+    }
+    Record {
+        tag: 0,
+        kind: 0,
+        value: 0,
+        length: 0,
+    }
+}
 
 // Most numbers are one byte.
 fn number_len(v: u64) -> usize

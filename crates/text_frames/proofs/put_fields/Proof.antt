@@ -1,6 +1,6 @@
 -- `text_frames::put_fields` meets its contract.
 use Prim.Native.Nat.{_-_}
-use Rattle.text_frames.proofs.Fields.{Listing, list-start, list-words, list-one, list-more, list-done}
+use Rattle.text_frames.proofs.Fields.{Listing, list-start, list-one, list-more, list-done}
 use borrow.Author.Needs.{needs}
 use Rattle.text_frames.proofs.put_fields.Statement.{statement}
 use Rattle.text_frames.proofs.put_fields.Tie as tie
@@ -15,7 +15,7 @@ loop-holds : tie.Need-loop-holds Inv-loop μ-loop
 loop-holds c = list-start (c .before .before .before .before .pre)
 
 record-at-requires : tie.Need-record-at-requires Inv-loop μ-loop
-record-at-requires c κs = list-words (c .before .before .loop .inv) (c .before .loop-test .taken)
+record-at-requires c κs = search needs
 
 put-field-requires : tie.Need-put-field-requires Inv-loop μ-loop
 put-field-requires c κs = list-one (c .before .before .before .loop .inv) (c .before .before .loop-test .taken) (c .record-at .ensures)

@@ -1,5 +1,10 @@
 -- `write_message::prepend_all` meets its contract.
+use mathlib.Core.Path.{_≡_, _∙_}
+use Prim.Native.Nat.{_-_, _*_}
 use native.Mathlib.Omega.{arith}
+use Rattle.wire.specs.Limits.{recordWords}
+use Rattle.wire.specs.Table.{recordAt}
+use Rattle.write_record.specs.Taken.{record-front}
 use Rattle.place.specs.Spans.{spans-length}
 use Rattle.write_message.proofs.Turns.{Backward, backward-start, backward-one, backward-more, backward-done}
 use borrow.Author.Needs.{needs}
@@ -7,10 +12,22 @@ use Rattle.write_message.proofs.prepend_all.Statement.{statement}
 use Rattle.write_message.proofs.prepend_all.Tie as tie
 
 abbrev Inv-loop : tie.InvT-loop
-Inv-loop buf₀ source table count end₀ i₀ buf end i = Backward buf₀ source table count buf end i
+Inv-loop buf₀ source table count records end₀ i₀ buf end i = Backward buf₀ source table count buf end i
 
 abbrev μ-loop : tie.MeasureT-loop
-μ-loop buf₀ source table count end₀ i₀ buf end i = i
+μ-loop buf₀ source table count records end₀ i₀ buf end i = i
+
+mul-records : tie.Need-mul-records Inv-loop μ-loop
+mul-records c = omega (arith, c .before .before .before .pre .0 .count)
+
+sub-records : tie.Need-sub-records Inv-loop μ-loop
+sub-records c = search needs
+
+part-records-start : tie.Need-part-records-start Inv-loop μ-loop
+part-records-start c = search needs
+
+part-records-end : tie.Need-part-records-end Inv-loop μ-loop
+part-records-end c = omega (arith, c .before .before .before .pre .0 .count)
 
 loop-holds : tie.Need-loop-holds Inv-loop μ-loop
 loop-holds c = backward-start _ _ _ _
@@ -18,27 +35,42 @@ loop-holds c = backward-start _ _ _ _
 sub-i : tie.Need-sub-i Inv-loop μ-loop
 sub-i c = search needs
 
-load-requires : tie.Need-load-requires Inv-loop μ-loop
-load-requires c κs = omega (arith, c .before .before .before .before .before .pre .0 .count, c .before .loop .inv .index)
+record-at-requires : tie.Need-record-at-requires Inv-loop μ-loop
+record-at-requires c κs = search needs
+
+-- a record of the part is that of the table
+there : (c : tie.After-record-at Inv-loop μ-loop) → let a = c .before .before .before .before .before .before .before in
+    c .record-at .result ≡ recordAt (a .args .table .now) (c .before .before .loop .i - 1)
+there c =
+    let l = c .before .before .loop in
+    let a = c .before .before .before .before .before .before .before in
+    c .record-at .ensures
+    ∙ record-front (a .args .table .now) (recordWords * a .args .count - 0) (a .args .count) (l .i - 1) (omega arith)
+    (omega (arith, l .inv .index, c .before .loop-test .taken)) (a .pre .0 .count)
 
 tag-before-requires : tie.Need-tag-before-requires Inv-loop μ-loop
-tag-before-requires c κs = omega (arith, c .before .before .before .before .before .before .pre .0 .count, c .before .before .loop .inv .index)
+tag-before-requires c κs =
+    let l = c .before .before in
+    omega (arith, l .before .before .before .before .before .pre .0 .count, l .loop .inv .index)
 
 prepend-record-requires : tie.Need-prepend-record-requires Inv-loop μ-loop
 prepend-record-requires c κs =
-    let a = c .before .before .before .before .before .before .before .before in
-    backward-one (a .pre .0) (a .pre .1) (c .before .before .before .before .loop .inv) (c .before .before .before .loop-test .taken)
-    (c .before .before .load .ensures) (c .before .tag-before .ensures)
+    let l = c .before .before .before .before in
+    let a = l .before .before .before .before .before in
+    backward-one (a .pre .0) (a .pre .1) (l .loop .inv) (c .before .before .before .loop-test .taken) (there (c .before .before))
+    (c .before .tag-before .ensures)
 
 loop-less : tie.Need-loop-less Inv-loop μ-loop
 loop-less c = search needs
 
 loop-again : tie.Need-loop-again Inv-loop μ-loop
 loop-again c =
-    let a = c .before .before .before .before .before .before .before .before .before .before .before in
-    backward-more (a .pre .0) (a .pre .1) (c .before .before .before .before .before .before .before .loop .inv)
-    (c .before .before .before .before .before .before .loop-test .taken) (c .before .before .before .before .before .load .ensures)
-    (c .before .before .before .before .tag-before .ensures) (c .before .before .prepend-record .ensures)
+    let t = c .before .before .before .before in
+    let r = t .before in
+    let l = r .before .before in
+    let a = l .before .before .before .before .before in
+    backward-more (a .pre .0) (a .pre .1) (l .loop .inv) (r .before .loop-test .taken) (there r) (t .tag-before .ensures)
+    (c .before .before .prepend-record .ensures)
 
 same-length : tie.Need-same-length Inv-loop μ-loop
 same-length c = spans-length (c .before .loop .inv .put)
@@ -52,9 +84,13 @@ prepend-all-spec =
     (tie.spec
     Inv-loop
     μ-loop
+    mul-records
+    sub-records
+    part-records-start
+    part-records-end
     loop-holds
     sub-i
-    load-requires
+    record-at-requires
     tag-before-requires
     prepend-record-requires
     loop-less

@@ -27,8 +27,8 @@ add-left c = search needs
 loop-holds : tie.Need-loop-holds Inv-loop μ-loop
 loop-holds c = weigh-start _ _ _ _ (c .before .if1 .left) (c .if2 .left)
 
-load-requires : tie.Need-load-requires Inv-loop μ-loop
-load-requires c κs = omega (arith, c .before .loop .inv .count, c .loop-test .taken)
+record-at-requires : tie.Need-record-at-requires Inv-loop μ-loop
+record-at-requires c κs = search needs
 
 weigh-record-requires : tie.Need-weigh-record-requires Inv-loop μ-loop
 weigh-record-requires c κs = search needs
@@ -39,7 +39,7 @@ enum-known-why c = search needs
 returns-3 : tie.Need-returns-3 Inv-loop μ-loop
 returns-3 c =
     turn-bad (c .before .before .before .before .before .before .loop .inv) (c .before .before .before .before .before .loop-test .taken)
-    (c .before .before .before .before .load .ensures) (c .before .before .before .weigh-record .ensures) _ (c .before .why .given .1)
+    (c .before .before .before .before .record-at .ensures) (c .before .before .before .weigh-record .ensures) _ (c .before .why .given .1)
 
 enum-known-n : tie.Need-enum-known-n Inv-loop μ-loop
 enum-known-n c = search needs
@@ -56,7 +56,7 @@ loop-less c = search needs
 loop-again : tie.Need-loop-again Inv-loop μ-loop
 loop-again c =
     turn-more (c .before .before .before .before .before .before .before .loop .inv)
-    (c .before .before .before .before .before .before .loop-test .taken) (c .before .before .before .before .before .load .ensures)
+    (c .before .before .before .before .before .before .loop-test .taken) (c .before .before .before .before .before .record-at .ensures)
     (c .before .before .before .before .weigh-record .ensures) _ (c .before .before .n .given .1) (c .spend .ensures)
 
 returns-4 : tie.Need-returns-4 Inv-loop μ-loop
@@ -73,7 +73,7 @@ weigh-spec =
     cast-size
     add-left
     loop-holds
-    load-requires
+    record-at-requires
     weigh-record-requires
     enum-known-why
     returns-3
