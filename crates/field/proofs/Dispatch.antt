@@ -1,15 +1,20 @@
--- The value of a wire type, found by the number of the type: two tests, no table of jumps.
+-- The value of a wire type, found by its kind: two tests, no table of jumps. And a step by its key and its value.
 use Prim.Native.Nat.{ℕ, _≤_, _<_}
 use mathlib.Core.Path.{_≡_, ap, _∙_, sym}
 use mathlib.Core.List.{List}
 use native.Mathlib.Omega.{arith}
 use Rattle.wire.specs.Numbers.{kindOf}
-use Rattle.wire.specs.Reading.{wireOf, valueAt}
+use Rattle.wire.specs.Reading.{wireOf, keyAt, valueAt, tagged, stepOf, stepAt}
 use Rattle.wire.specs.ReadingLaws.{wire-eight}
+use Rattle.wire.specs.StepLaws.{field-keyed, field-keyless, step-before}
 use Rattle.wire.specs.Types.{wire-kind}
 use Rattle.wire.specs.declared.WireType.{WireType}
 use Rattle.wire.specs.declared.WireType.the-variants as wireType
 use Rattle.wire.specs.declared.ValueFound.{ValueFound}
+use Rattle.wire.specs.declared.Key.{Key}
+use Rattle.wire.specs.declared.KeyFound.the-variants as keyFound
+use Rattle.wire.specs.declared.Refusal.{Refusal}
+use Rattle.wire.specs.declared.Stepped.the-variants as stepped
 
 -- the four ways to r
 pub data ByKind (s : List ℕ) (e q kind : ℕ) (r : ValueFound) : Type 0 where
@@ -27,3 +32,13 @@ of-kind s e q kind r (eight a b h) = h ∙ ap (valueAt s e q) (sym (wire-eight k
 -- a kind leads to the value of its wire type
 pub of-wire : (s : List ℕ) (e q kind : ℕ) (w : WireType) (r : ValueFound) → kind ≡ kindOf w → ByKind s e q kind r → r ≡ valueAt s e q w
 of-wire s e q kind w r h d = of-kind s e q kind r d ∙ ap (valueAt s e q) (ap wireOf h ∙ wire-kind w)
+
+-- a step before the end, by its key: there is none, or what is read behind it
+module _ (s : List ℕ) (e p last : ℕ) (b : p < e) where
+  pub step-keyless : {r : Refusal} → keyAt s e p last ≡ keyFound.Refused r → stepAt s e p last ≡ stepped.Refused r
+  step-keyless h = step-before s e p last b ∙ ap stepOf (field-keyless s e p last h)
+
+  pub step-keyed : {k : Key} {q : ℕ} {r v : ValueFound} → keyAt s e p last ≡ keyFound.Got k q → r ≡ valueAt s e q (k .wire) → r ≡ v
+      → stepAt s e p last ≡ stepOf (tagged (k .tag) v)
+  step-keyed {k} h f g =
+      step-before s e p last b ∙ ap stepOf (field-keyed s e p last h) ∙ ap (λ (x : ValueFound). stepOf (tagged (k .tag) x)) (sym f ∙ g)

@@ -89,15 +89,15 @@ pub fn next_field(s: &[u8], from: usize, end: usize, last: u32) -> Stepped
         KeyFound::Refused(r) => Stepped::Refused(r),
         KeyFound::Got(key, place) => {
             let wire = key.wire;
-            let number = field_key::wire_number(wire);
-            let value = if number < 2 {
-                if number == 0 {
+            let kind = field_key::wire_number(wire);
+            let value = if kind < 2 {
+                if kind == 0 {
                     field_value::number_at(s, place, end)
                 } else {
                     field_value::payload_at(s, place, end)
                 }
             } else {
-                if number == 2 {
+                if kind == 2 {
                     field_value::four_at(s, place, end)
                 } else {
                     field_value::eight_at(s, place, end)

@@ -1,12 +1,12 @@
 -- At the end, past it, and before it a field.
-use mathlib.Core.Path.{_≡_, _∙_, ap, sym}
+use mathlib.Core.Path.{_≡_, _∙_, sym}
 use mathlib.Core.Logic.{⊎-elim}
 use native.Mathlib.Omega.{arith}
 use Prim.Native.Nat.{_<_}
 use Rattle.wire.specs.Reading.{tagged, stepOf, stepAt}
-use Rattle.wire.specs.StepLaws.{field-keyed, field-keyless, step-before, step-at, step-past}
+use Rattle.wire.specs.StepLaws.{step-at, step-past}
 use Rattle.wire.specs.declared.ValueFound.{ValueFound}
-use Rattle.field.proofs.Dispatch.{ByKind, number, payload, four, eight, of-wire}
+use Rattle.field.proofs.Dispatch.{ByKind, number, payload, four, eight, of-wire, step-keyless, step-keyed}
 use borrow.Author.Needs.{needs}
 use Rattle.field.proofs.next_field.Statement.{statement}
 use Rattle.field.proofs.next_field.Tie as tie
@@ -60,29 +60,23 @@ met c =
     (c .if3 .came)
 
 -- the step is the value under its tag
-valued : (c : tie.Joined3) → let a = c .before .before .before .before .before .before .before .before .before .args in
-    stepAt (a .s .now) (a .end) (a .from) (a .last) ≡ stepOf (tagged (c .before .before .before .key .given .0 .0 .tag) (c .if3 .value))
+valued : (c : tie.Joined3) {v : ValueFound} → c .if3 .value ≡ v → let a = c .before .before .before .before .before .before .before .before .before .args in
+    stepAt (a .s .now) (a .end) (a .from) (a .last) ≡ stepOf (tagged (c .before .before .before .key .given .0 .0 .tag) v)
 valued c =
     let k = c .before .before .before in
-    step-before _ _ _ _ (before (k .before .before .before))
-    ∙ ap stepOf (field-keyed _ _ _ _ (sym (k .before .before .decode-key .ensures) ∙ k .key .given .1))
-    ∙ ap (λ (r : ValueFound). stepOf (tagged (k .key .given .0 .0 .tag) r))
-    (sym (of-wire _ _ _ _ (k .key .given .0 .0 .wire) _ (c .before .wire-number .ensures) (met c)))
+    step-keyed _ _ _ _ (before (k .before .before .before)) (sym (k .before .before .decode-key .ensures) ∙ k .key .given .1)
+    (of-wire _ _ _ _ (k .key .given .0 .0 .wire) _ (c .before .wire-number .ensures) (met c))
 
 returns-3 : tie.Need-returns-3
 returns-3 c =
     let k = c .before .before .before in
-    sym (step-before _ _ _ _ (before (k .before)) ∙ ap stepOf (field-keyless _ _ _ _ (sym (k .decode-key .ensures) ∙ c .before .r .given .1)))
+    sym (step-keyless _ _ _ _ (before (k .before)) (sym (k .decode-key .ensures) ∙ c .before .r .given .1))
 
 returns-4 : tie.Need-returns-4
-returns-4 c =
-    let d = c .before .before .before in
-    sym (valued d ∙ ap (λ (r : ValueFound). stepOf (tagged (d .before .before .before .key .given .0 .0 .tag) r)) (c .before .value .given .1))
+returns-4 c = sym (valued (c .before .before .before) (c .before .value .given .1))
 
 returns-5 : tie.Need-returns-5
-returns-5 c =
-    let d = c .before .before .before in
-    sym (valued d ∙ ap (λ (r : ValueFound). stepOf (tagged (d .before .before .before .key .given .0 .0 .tag) r)) (c .before .value2 .given .1))
+returns-5 c = sym (valued (c .before .before .before) (c .before .value2 .given .1))
 
 pub next-field-spec : {M : Type 1} → statement M
 next-field-spec =

@@ -1,10 +1,11 @@
 -- At the end, past it, and before it a field.
-use mathlib.Core.Path.{_≡_, _∙_, ap, sym}
+use mathlib.Core.Path.{_≡_, _∙_, sym}
 use native.Mathlib.Omega.{arith}
 use Prim.Native.Nat.{_<_}
 use Rattle.wire.specs.Reading.{tagged, stepOf, stepAt}
-use Rattle.wire.specs.StepLaws.{field-keyed, field-keyless, step-before, step-at, step-past}
+use Rattle.wire.specs.StepLaws.{step-at, step-past}
 use Rattle.wire.specs.declared.ValueFound.{ValueFound}
+use Rattle.field.proofs.Dispatch.{step-keyless, step-keyed}
 use borrow.Author.Needs.{needs}
 use Rattle.field.proofs.step_from.Statement.{statement}
 use Rattle.field.proofs.step_from.Tie as tie
@@ -37,29 +38,23 @@ before : (c : tie.Else2) → let a = c .before .before .before .args in a .at < 
 before c = let n = c .before .if1 .left in omega arith
 
 -- the step is the value under its tag
-valued : (c : tie.After-decode-value) → let a = c .before .before .before .before .before .before .before .before .args in
-    stepAt (a .s .now) (a .end) (a .at) (a .last) ≡ stepOf (tagged (c .before .before .key .given .0 .0 .tag) (c .decode-value .result))
+valued : (c : tie.After-decode-value) {v : ValueFound} → c .decode-value .result ≡ v
+    → let a = c .before .before .before .before .before .before .before .before .args in
+    stepAt (a .s .now) (a .end) (a .at) (a .last) ≡ stepOf (tagged (c .before .before .key .given .0 .0 .tag) v)
 valued c =
     let k = c .before .before in
-    let b = k .before .before .before in
-    step-before _ _ _ _ (before b)
-    ∙ ap stepOf (field-keyed _ _ _ _ (sym (k .before .before .decode-key .ensures) ∙ k .key .given .1))
-    ∙ ap (λ (r : ValueFound). stepOf (tagged (k .key .given .0 .0 .tag) r)) (sym (c .decode-value .ensures))
+    step-keyed _ _ _ _ (before (k .before .before .before)) (sym (k .before .before .decode-key .ensures) ∙ k .key .given .1) (c .decode-value .ensures)
 
 returns-3 : tie.Need-returns-3
 returns-3 c =
     let k = c .before .before .before in
-    sym (step-before _ _ _ _ (before (k .before)) ∙ ap stepOf (field-keyless _ _ _ _ (sym (k .decode-key .ensures) ∙ c .before .r .given .1)))
+    sym (step-keyless _ _ _ _ (before (k .before)) (sym (k .decode-key .ensures) ∙ c .before .r .given .1))
 
 returns-4 : tie.Need-returns-4
-returns-4 c =
-    let d = c .before .before .before in
-    sym (valued d ∙ ap (λ (r : ValueFound). stepOf (tagged (d .before .before .key .given .0 .0 .tag) r)) (c .before .r2 .given .1))
+returns-4 c = sym (valued (c .before .before .before) (c .before .r2 .given .1))
 
 returns-5 : tie.Need-returns-5
-returns-5 c =
-    let d = c .before .before .before in
-    sym (valued d ∙ ap (λ (r : ValueFound). stepOf (tagged (d .before .before .key .given .0 .0 .tag) r)) (c .before .v .given .1))
+returns-5 c = sym (valued (c .before .before .before) (c .before .v .given .1))
 
 pub step-from-spec : {M : Type 1} → statement M
 step-from-spec =

@@ -1,6 +1,5 @@
 -- `write_message::weigh` meets its contract.
 use Prim.Native.Nat.{_-_}
-use native.Mathlib.Omega.{arith}
 use Rattle.write_message.proofs.Turns.{source-long, count-above, Weighing, weigh-start, turn-bad, turn-more, weigh-done}
 use borrow.Author.Needs.{needs}
 use Rattle.write_message.proofs.weigh.Statement.{statement}
