@@ -21,12 +21,17 @@ END
 
 what_soundings() {
     cat <<'END'
-Prints the levels of each sounding as a table (CSV). A line is a frame in hex.
-A value that is missing is an empty cell.
+Prints a table (CSV). A line is a frame in hex, and has a row for each level of
+its sounding, or one row: with no level if it has none, with the name of the
+refusal if it is refused, HEX if it is not hexadecimal, LONG if it has more than
+4096 characters. A value that is missing is an empty cell. The columns:
+  frame,station,launch,level,pressure_pa,temperature_c,dewpoint_depression_c,
+  refusal
 Example:
-  $ soundings examples/iced.hex
-  frame,station,launch,level,pressure_pa,temperature_c,dewpoint_depression_c
-  1,10410,1700000060,1,70000,-5.3,1.2
+  $ soundings examples/rows.hex | tail -n 3
+  2,10410,1700000120,,,,,
+  3,,,,,,,Repeated
+  4,,,,,,,HEX
 END
 }
 
