@@ -130,6 +130,13 @@ try_short_reads() {
     is 'bytes one by one' "$(cksum <"$room/whole")" "$(cksum <"$room/out")"
 }
 
+# A reader that takes a little at a time, from a pipe with little room, while the program is stopped and goes on: its writes are cut short.
+try_short_writes() {
+    head -c 400000 "$room/many" >"$room/some"
+    is 'short writes' 'status 0 0, the same bytes, more writes' "$(python3 tools/try-programs.py short "$name" "$room/some" "$room/out" 2>"$room/err")"
+    is 'short writes: output' "$("./$name" "$room/some" | cksum)" "$(cksum <"$room/out")"
+}
+
 # Every second call is interrupted, and then one read fails, where strace can do that.
 try_interrupted() {
     yes 0401 | head -n 50000 >"$room/many"
@@ -155,6 +162,9 @@ try_words() {
             tr '\n' ' ' <"$text" | grep -q "[ ,]$number $refusal\b" || is "$text names refusal $number" "$refusal" ''
         done
     done < <(root=$root; . tools/program-text.sh; refusals)
+    for text in "$room/out" "man/$name.1" README.md; do
+        is "the examples of $text" right "$(python3 tools/try-programs.py examples "$name" "$text")"
+    done
     run --version
     is 'version: status' 0 "$status"
     is 'version: toolchain' "toolchain: $(rt version)" "$(sed -n 2p "$room/out")"
@@ -174,6 +184,34 @@ try_lines() {
     is 'counted: all of them' "$(sed -n '1s/ .*//p' "$room/err")" "$(sed 1d "$room/err" | awk '{ n += $1 } END { print n }')"
     [ "$name" != dump ] || is 'counted: by number' "$(awk '$2 != "F" { k = $2 == "NO" ? $2 " " $3 : $2; n[k]++ } END { for (k in n) print n[k], k }' \
         "crates/$name/stdout" | sort)" "$(sed 1d "$room/err" | sort)"
+}
+
+# The table through a reader of CSV: rows of every kind, each with the cells of the first row; no frame is missing; and the counts are the same.
+try_rows() {
+    [ "$name" = soundings ] || return
+    for frames in crates/soundings/stdin examples/rows.hex examples/iced.hex; do
+        run --count "$frames"
+        case $frames in
+        */stdin) kinds='HEX, LONG, levels, no level, refused' ;;
+        */rows.hex) kinds='HEX, levels, no level, refused' ;;
+        */iced.hex) kinds=levels ;;
+        esac
+        is "$frames as CSV" "$kinds" "$( (. tools/program-text.sh; refusals) | python3 tools/try-programs.py rows "$room/out" "$room/err" "$frames" 2>&1)"
+    done
+}
+
+# The first run on a terminal says what it does, crate by crate. A run after it says nothing.
+try_first_run() {
+    command -v script >/dev/null || { echo "$name: not tried: the first run on a terminal (no script)"; return; }
+    rm -f "target/bin/.$name.built"
+    script -qc "./$name $room/a >$room/out" "$room/said" </dev/null >/dev/null
+    is 'the first run: begins' "$name: proving and building it; this takes minutes the first time, and later runs start at once" \
+        "$(tr -d '\r' <"$room/said" | grep -a -v '^Script' | sed -n 1p)"
+    is 'the first run: a line for each crate' "$(sed -n "s/^$name: *//p" crates.txt | tr ' ' '\n' | sort)" \
+        "$(for c in $(sed -n "s/^$name: *//p" crates.txt); do grep -aq "^rt: $c proved\|^rt: $c " "$room/said" && echo "$c"; done | sort)"
+    is 'the first run: output' "$begin$one$lf." "$(cat "$room/out"; echo .)"
+    script -qc "./$name $room/a >$room/out" "$room/said" </dev/null >/dev/null
+    is 'the second run: says nothing' '' "$(tr -d '\r' <"$room/said" | grep -a -v '^Script\|^$')"
 }
 
 # A long stream: the most memory that the program held must not grow with it.
@@ -203,12 +241,15 @@ for name in ${*:-dump soundings}; do
     begin=${begin%.}
     skip=$(printf '%s' "$begin" | wc -l)
     try_lines
+    try_rows
     try_files
     try_failures
     try_closed_pipe
     try_short_reads
+    try_short_writes
     try_interrupted
     try_words
+    try_first_run
     try_stream
 done
 echo "$right right, $wrong wrong"
