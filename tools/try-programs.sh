@@ -214,9 +214,11 @@ try_first_run() {
     is 'the second run: says nothing' '' "$(tr -d '\r' <"$room/said" | grep -a -v '^Script\|^$')"
 }
 
-# A long stream: the most memory that the program held must not grow with it.
+# A long stream: the most memory that the program held must not grow with it, and no line is lost.
 memory_of() { # MEGABYTES
-    yes "$(sed -n 1p "examples/soundings.hex")" | head -c "$1000000" | "./$name" 2>"$room/err" >/dev/null &
+    line=$(sed -n 1p "examples/soundings.hex")
+    frames=$(($1 * 1000000 / (${#line} + 1)))
+    yes "$line" | head -n "$frames" | { "./$name" 2>"$room/err"; echo $? >"$room/status"; } | wc -l >"$room/lines" &
     most=0
     while kill -0 $! 2>/dev/null; do
         now=$(ps -eo rss=,args= | awk -v p="$root/target/bin/$name" 'index($0, p " --status") { if ($1 > m) m = $1 } END { print m + 0 }')
@@ -224,7 +226,7 @@ memory_of() { # MEGABYTES
         sleep 0.2
     done
     wait $!
-    status=$?
+    status=$(cat "$room/status")
 }
 
 try_stream() {
@@ -233,7 +235,10 @@ try_stream() {
     few=$most
     memory_of "${STREAM_MB:-32}"
     is "a stream of ${STREAM_MB:-32} MB: status" 0 "$status"
-    is "a stream of ${STREAM_MB:-32} MB: memory ($few kB for 4 MB, $most kB)" yes "$([ "$most" -le $((few + few / 10 + 1024)) ] && echo yes)"
+    is "a stream of ${STREAM_MB:-32} MB: lines" $((skip + frames * ($(alone "$line" | wc -l) - skip))) "$(cat "$room/lines")"
+    echo "$name: $few kB held for 4 MB, $most kB for ${STREAM_MB:-32} MB"
+    is "a stream of ${STREAM_MB:-32} MB: memory was looked at" yes "$([ "$few" -gt 0 ] && echo yes)"
+    is "a stream of ${STREAM_MB:-32} MB: memory" yes "$([ "$most" -le $((few + few / 10 + 1024)) ] && echo yes)"
 }
 
 for name in ${*:-dump soundings}; do
