@@ -311,7 +311,7 @@ fn replay(fd: i32) -> State {
     let mut turns = u64::MAX;
     while 0 < turns {
         turns -= 1;
-        let got = libc::read(fd, &mut block);
+        let got = stream::read_block(fd, &mut block);
         let n = io::count(got, &block);
         if n == 0 {
             break;

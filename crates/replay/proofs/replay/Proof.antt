@@ -20,11 +20,11 @@ loop-holds c = search needs
 sub-turns : tie.Need-sub-turns Inv-loop μ-loop
 sub-turns c = search needs
 
-slice-aggregate-read : tie.Need-slice-aggregate-read Inv-loop μ-loop
-slice-aggregate-read c = search needs
+slice-aggregate-read-block : tie.Need-slice-aggregate-read-block Inv-loop μ-loop
+slice-aggregate-read-block c = search needs
 
-read-requires : tie.Need-read-requires Inv-loop μ-loop
-read-requires c κs = search needs
+read-block-requires : tie.Need-read-block-requires Inv-loop μ-loop
+read-block-requires c κs = search needs
 
 slice-aggregate-count : tie.Need-slice-aggregate-count Inv-loop μ-loop
 slice-aggregate-count c = search needs
@@ -74,8 +74,8 @@ replay-spec =
     start-requires
     loop-holds
     sub-turns
-    slice-aggregate-read
-    read-requires
+    slice-aggregate-read-block
+    read-block-requires
     slice-aggregate-count
     count-requires
     sub-feed-all
