@@ -11,7 +11,7 @@ use Rattle.wire.specs.Choose.{choose}
 use Rattle.wire.specs.Numbers.{numberOf}
 use Rattle.wire.specs.declared.Refusal.{Refusal}
 use Rattle.wire.specs.declared.Refusal.the-variants.{Truncated, InvalidVarint, TagOverflowed, TooLong, NoRoom, BadRecord, OutOfOrder, BadCap}
-use Rattle.wire.specs.declared.Refusal.the-variants.{WrongWireType, OutOfRange, Repeated, MissingField}
+use Rattle.wire.specs.declared.Refusal.the-variants.{WrongWireType, OutOfRange, Repeated, BadIndex, MissingField}
 use Rattle.demands.specs.Calls.{Every}
 
 pub record Rule : Type 0 where
@@ -73,6 +73,7 @@ refused-first BadCap n = refl
 refused-first WrongWireType n = refl
 refused-first OutOfRange n = refl
 refused-first Repeated n = refl
+refused-first BadIndex n = refl
 refused-first MissingField n = refl
 
 not-zero : (r : Refusal) → numberOf r ≡ 0 → ⊥

@@ -28,6 +28,8 @@ use Rattle.entry_answer.specs.declared.KeyLength.{KeyLength}
 use Rattle.entry_answer.specs.declared.KeyLength.the-variants as measured
 use Rattle.entry_answer.specs.declared.Picked.{Picked}
 use Rattle.entry_answer.specs.declared.Picked.the-variants as picked
+use Rattle.entry_answer.specs.declared.Indexed.{Indexed}
+use Rattle.entry_answer.specs.declared.Indexed.the-variants as indexed
 use Rattle.entry_answer.specs.declared.Several as several
 use Rattle.entry_answer.specs.declared.Several.the-variants as severalAs
 
@@ -158,6 +160,11 @@ earlyTold (early.Found f n) =
     record { number = 0; keys = n; found = 1; kind = kindWord (f .value); value = valueWord (f .value); length = lengthWord (f .value) }
 earlyTold (early.Absent n) = record { number = 0; keys = n; found = 0; kind = 0; value = 0; length = 0 }
 earlyTold (early.Refused r) = record { number = numberOf r; keys = 0; found = 0; kind = 0; value = 0; length = 0 }
+
+-- Rules A3 and A9: the number of tags of an index
+abbrev pub indexedTold : Indexed → Number
+indexedTold (indexed.Tags n) = record { number = 0; value = n }
+indexedTold (indexed.Refused r) = record { number = numberOf r; value = 0 }
 
 -- Rules E2, E3, E4 and R7: a message that was written: its start and its length
 pub record Wrote : Type 0 where

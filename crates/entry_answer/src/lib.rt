@@ -76,6 +76,12 @@ pub enum More {
     Refused(Refusal),
 }
 
+// How many tags an index has, or why there is none.
+pub enum Indexed {
+    Tags(usize),
+    Refused(Refusal),
+}
+
 // What every reader tests first, of a slice's length and two places: TooLong, then BadCap.
 pub fn gate(len: usize, at: usize, end: usize) -> Gated
     ensures { λ r. ⌜ r ≡ gated len at end ⌝ }

@@ -16,6 +16,7 @@ pub mod ReadingLaws
 pub mod StepLaws
 pub mod StepBack
 pub mod Theorem
+pub mod Marks
 pub mod Table
 pub mod Only
 pub mod Cases

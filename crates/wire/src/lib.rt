@@ -58,6 +58,7 @@ pub enum Refusal {
     OutOfRange,
     Repeated,
     MissingField,
+    BadIndex,
 }
 
 // Rule R1: the number of a refusal.
@@ -76,6 +77,7 @@ pub fn number_of(r: Refusal) -> u64
         Refusal::WrongWireType => 9,
         Refusal::OutOfRange => 10,
         Refusal::Repeated => 11,
+        Refusal::BadIndex => 12,
         Refusal::MissingField => 13,
     }
 }
