@@ -1,6 +1,7 @@
 // The face: every entry that a caller has, and every answer, by one name. Each stands with its contract in the crate that it is taken from.
 
 // ---- answers
+pub use entry_answer::Indexed;
 pub use entry_answer::KeyLength;
 pub use entry_answer::KeyRead;
 pub use entry_answer::More;
@@ -72,6 +73,14 @@ pub use entry_write::encode_message;
 pub use entry_write::encoded_len_message;
 pub use entry_write::insert;
 pub use entry_write::prepend_message;
+
+// ---- an index beside a stored message
+pub use index::INDEX_WORDS;
+pub use index_line::read_line;
+pub use index_line::write_line;
+pub use index_make::index_fits;
+pub use index_make::make_index;
+pub use index_pick::pick_indexed;
 
 // ---- soundings
 pub use sounding::LEVEL_WORDS;

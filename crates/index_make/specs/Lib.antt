@@ -1,0 +1,4 @@
+pub mod Made
+pub mod Groups
+pub mod GroupLaws
+pub mod Meaning
