@@ -32,6 +32,8 @@ use Rattle.c_words.proofs.early_words.Kinds as early-words
 use Rattle.c_words.proofs.early_words.Reads as early-words-reads
 use Rattle.c_words.proofs.sounding_words.Kinds as sounding-words
 use Rattle.c_words.proofs.sounding_words.Reads as sounding-words-reads
+use Rattle.c_words.proofs.indexed_words.Kinds as indexed-words
+use Rattle.c_words.proofs.indexed_words.Reads as indexed-words-reads
 
 pub typed-of-one : One 0 typed-of.ps typed-of.r typed-of-reads.Post (λ κs r s. r)
 typed-of-one κs a x y s t p q = p ∙ sym q
@@ -77,3 +79,6 @@ early-words-one κs a x y s t p q = p ∙ sym q
 
 pub sounding-words-one : One 0 sounding-words.ps sounding-words.r sounding-words-reads.Post (λ κs r s. asSounding r)
 sounding-words-one κs a x y s t p q = p ∙ sym q
+
+pub indexed-words-one : One 0 indexed-words.ps indexed-words.r indexed-words-reads.Post (λ κs r s. asNumber r)
+indexed-words-one κs a x y s t p q = p ∙ sym q

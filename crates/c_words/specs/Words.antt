@@ -1,10 +1,11 @@
 -- The words that C is handed: each struct of the interface as the answer that the face tells.
 use Prim.Native.Nat.{ℕ, zero, suc, _≤_}
 use mathlib.Core.Path.{_≡_, refl}
+use mathlib.Core.Bool.{Bool, true, false}
 use mathlib.Core.List.{List}
 use native.Mathlib.Omega.{arith}
 use Rattle.entry_answer.specs.Told as told
-use Rattle.entry_answer.specs.Told.{putTold, readTold, writtenTold, insertedTold}
+use Rattle.entry_answer.specs.Told.{putTold, readTold, writtenTold, insertedTold, indexedTold}
 use Rattle.write_message.specs.Writing.{Writing}
 use Rattle.write_insertion.specs.Insertion.{Insertion}
 use Rattle.entry_answer.specs.Stores.{Stored}
@@ -15,6 +16,7 @@ use Rattle.wire.specs.declared.Refusal.the-variants.{BadRecord}
 use Rattle.wire.specs.declared.WireType.{WireType}
 use Rattle.wire.specs.declared.WireType.the-variants as wireType
 use Rattle.message_table.specs.Into.{Outcome}
+use Rattle.index.specs.Index as index
 use Rattle.message_payload.specs.declared.Span.{Span}
 use Rattle.sounding.specs.Told as soundings
 use Rattle.sounding.specs.Told.{soundingTold}
@@ -101,8 +103,16 @@ writingTold o = record { told = writtenTold (o .answer); lent = o .buf }
 abbrev pub insertionTold : Insertion → Lent told.Number
 insertionTold o = record { told = insertedTold (o .answer); lent = o .table }
 
+abbrev pub indexTold : index.Outcome → Lent told.Number
+indexTold o = record { told = indexedTold (o .answer); lent = o .index }
+
 abbrev pub levelsTold : levels.Outcome → Lent soundings.Heading
 levelsTold o = record { told = soundingTold (o .answer); lent = o .levels }
+
+-- yes or no as a number
+abbrev pub bitOf : Bool → ℕ
+bitOf true = 1
+bitOf false = 0
 
 -- a told answer in words, with what is lent beside it
 pub handed : {A : Type 0} {t u : A} {l : List ℕ} {o : Lent A} → t ≡ u → _≡_ {A = Lent A} (record { told = u; lent = l }) o

@@ -2,10 +2,11 @@
 ghost use mathlib.Core.Path.{_≡_};
 ghost use Rattle.wire.specs.Table.{kindWord, valueWord, lengthWord};
 ghost use Rattle.entry_answer.specs.Told.{putTold, varintTold, readTold, pickedTold, severalTold, earlyTold, keyLenTold, keyTold, valueTold};
-ghost use Rattle.entry_answer.specs.Told.{skippedTold, stepTold, writtenTold, insertedTold};
+ghost use Rattle.entry_answer.specs.Told.{skippedTold, stepTold, writtenTold, insertedTold, indexedTold};
 ghost use Rattle.sounding.specs.Told.{soundingTold};
 ghost use Rattle.c_words.specs.Words.{asNumber, asVarint, asRead, asPicked, asSeveral, asEarly, asWritten, asKey, asValue, asPlace, asStep, asSounding};
 ghost use Rattle.c_words.specs.Words.{typedOf, foundWords, noneWords, uncountedOf};
+use entry_answer::Indexed;
 use entry_answer::KeyLength;
 use entry_answer::KeyRead;
 use entry_answer::Picked;
@@ -449,6 +450,22 @@ pub fn early_words(p: Early) -> LookupWords
         Early::Found(f, n) => found_words(n, f),
         Early::Absent(n) => none_words(0, n),
         Early::Refused(r) => none_words(wire::number_of(r), 0),
+    }
+}
+
+// The number of tags of an index.
+pub fn indexed_words(x: Indexed) -> Number
+    ensures { λ r. ⌜ asNumber r ≡ indexedTold x ⌝ }
+{
+    match x {
+        Indexed::Tags(n) => Number {
+            number: 0,
+            value: n as u64,
+        },
+        Indexed::Refused(r) => Number {
+            number: wire::number_of(r),
+            value: 0,
+        },
     }
 }
 

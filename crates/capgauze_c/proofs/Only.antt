@@ -55,6 +55,16 @@ use Rattle.capgauze_c.proofs.capgauze_insert.Kinds as insert
 use Rattle.capgauze_c.proofs.capgauze_insert.Reads as insert-reads
 use Rattle.capgauze_c.proofs.capgauze_read_sounding.Kinds as read-sounding
 use Rattle.capgauze_c.proofs.capgauze_read_sounding.Reads as read-sounding-reads
+use Rattle.capgauze_c.proofs.capgauze_make_index.Kinds as make-index
+use Rattle.capgauze_c.proofs.capgauze_make_index.Reads as make-index-reads
+use Rattle.capgauze_c.proofs.capgauze_index_fits.Kinds as index-fits
+use Rattle.capgauze_c.proofs.capgauze_index_fits.Reads as index-fits-reads
+use Rattle.capgauze_c.proofs.capgauze_pick_indexed.Kinds as pick-indexed
+use Rattle.capgauze_c.proofs.capgauze_pick_indexed.Reads as pick-indexed-reads
+use Rattle.capgauze_c.proofs.capgauze_write_line.Kinds as write-line
+use Rattle.capgauze_c.proofs.capgauze_write_line.Reads as write-line-reads
+use Rattle.capgauze_c.proofs.capgauze_read_line.Kinds as read-line
+use Rattle.capgauze_c.proofs.capgauze_read_line.Reads as read-line-reads
 
 pub encoded-len-varint-one : One 0 encoded-len-varint.ps encoded-len-varint.r encoded-len-varint-reads.Post (λ κs r s. r)
 encoded-len-varint-one κs a x y s t p q = p ∙ sym q
@@ -139,3 +149,21 @@ insert-one κs a x y s t p q = p ∙ sym q
 pub read-sounding-one : One 2 read-sounding.ps read-sounding.r read-sounding-reads.Post {S = Lent soundings.Heading}
     (λ κs r s. record { told = asSounding r; lent = now (s .1 .0) })
 read-sounding-one κs a x y s t p q = p ∙ sym q
+
+pub make-index-one : One 2 make-index.ps make-index.r make-index-reads.Post {S = Lent told.Number}
+    (λ κs r s. record { told = asNumber r; lent = now (s .1 .0) })
+make-index-one κs a x y s t p q = p ∙ sym q
+
+pub index-fits-one : One 2 index-fits.ps index-fits.r index-fits-reads.Post (λ κs r s. r)
+index-fits-one κs a x y s t p q = p ∙ sym q
+
+pub pick-indexed-one : One 2 pick-indexed.ps pick-indexed.r pick-indexed-reads.Post (λ κs r s. asPicked r)
+pick-indexed-one κs a x y s t p q = p ∙ sym q
+
+pub write-line-one : One 2 write-line.ps write-line.r write-line-reads.Post {S = Lent told.Number}
+    (λ κs r s. record { told = asNumber r; lent = now (s .1 .1 .0) })
+write-line-one κs a x y s t p q = p ∙ sym q
+
+pub read-line-one : One 2 read-line.ps read-line.r read-line-reads.Post {S = Lent told.Number}
+    (λ κs r s. record { told = asNumber r; lent = now (s .1 .0) })
+read-line-one κs a x y s t p q = p ∙ sym q

@@ -14,11 +14,15 @@ ghost use Rattle.entry_field.specs.Fields.{decodeValue, skipField, stepEntry};
 ghost use Rattle.entry_varint.specs.Varints.{decodeVarint, decodeVarintCapped};
 ghost use Rattle.entry_answer.specs.Stores.{atFront, atEnd};
 ghost use Rattle.entry_message.specs.Messages.{readEntry, readPayload, pickEntry, severalEntry, earlyEntry};
+ghost use Rattle.index_line.specs.Line.{writeLine, readLine};
+ghost use Rattle.index_make.specs.Made.{makeIndex, indexFits};
+ghost use Rattle.index_pick.specs.Looked.{pickIndexed};
 ghost use Rattle.sounding.specs.Told.{soundingTold};
 ghost use Rattle.sounding.specs.Words.{readSounding};
 ghost use Rattle.c_words.specs.Words.{Lent, asNumber, asVarint, asRead, asPicked, asSeveral, asEarly, asPart, asWritten, asKey, asValue, asPlace};
 ghost use Rattle.c_words.specs.Words.{asStep, asSounding};
 ghost use Rattle.c_words.specs.Words.{typedOf, keyStored, valueTyped, placeTyped, storedTold, outcomeTold, writingTold, insertionTold, levelsTold};
+ghost use Rattle.c_words.specs.Words.{indexTold, bitOf};
 use c_words::KeyWords;
 use c_words::LookupWords;
 use c_words::Number;
@@ -330,6 +334,52 @@ pub extern "C" fn capgauze_insert(
         length: length,
     };
     c_words::inserted_words(capgauze::insert(source, table, count, r))
+}
+
+// ---- an index beside a stored message
+
+// The index of a message: the number of its tags, three words each.
+#[no_mangle]
+pub extern "C" fn capgauze_make_index(s: &[u8], index: &mut [u64]) -> Number
+    ensures { λ r. ⌜ record { told = asNumber r; lent = now (index .exit) } ≡ indexTold (makeIndex (now (s .entry)) (now (index .entry))) ⌝ }
+{
+    c_words::indexed_words(capgauze::make_index(s, index))
+}
+
+// 1 if the first tags of an index are the index of a message, else 0.
+#[no_mangle]
+pub extern "C" fn capgauze_index_fits(s: &[u8], index: &[u64], tags: usize) -> u64
+    ensures { λ r. ⌜ r ≡ bitOf (indexFits (now (s .entry)) (now (index .entry)) tags) ⌝ }
+{
+    if capgauze::index_fits(s, index, tags) {
+        1
+    } else {
+        0
+    }
+}
+
+// The only field of a tag, through an index.
+#[no_mangle]
+pub extern "C" fn capgauze_pick_indexed(s: &[u8], index: &[u64], tags: usize, tag: u32) -> PickWords
+    ensures { λ r. ⌜ asPicked r ≡ pickedTold (pickIndexed (now (s .entry)) (now (index .entry)) tags tag) ⌝ }
+{
+    c_words::pick_words(capgauze::pick_indexed(s, index, tags, tag))
+}
+
+// An index as a line of characters.
+#[no_mangle]
+pub extern "C" fn capgauze_write_line(index: &[u64], tags: usize, line: &mut [u8]) -> Number
+    ensures { λ r. ⌜ record { told = asNumber r; lent = now (line .exit) } ≡ storedTold (writeLine 1 4 (now (index .entry)) tags (now (line .entry))) ⌝ }
+{
+    c_words::put_words(capgauze::write_line(index, tags, line))
+}
+
+// A line as an index.
+#[no_mangle]
+pub extern "C" fn capgauze_read_line(line: &[u8], index: &mut [u64]) -> Number
+    ensures { λ r. ⌜ record { told = asNumber r; lent = now (index .exit) } ≡ indexTold (readLine 1 4 (now (line .entry)) (now (index .entry))) ⌝ }
+{
+    c_words::indexed_words(capgauze::read_line(line, index))
 }
 
 // ---- soundings
