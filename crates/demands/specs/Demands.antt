@@ -15,6 +15,8 @@ pub use Rattle.demands.specs.Refusals.{read-sounding-frame, copy-message
 pub use Rattle.demands.specs.Refusals.{c-encode-varint-frame, c-prepend-varint-frame, c-encode-key-frame, c-prepend-key-frame}
 pub use Rattle.demands.specs.Refusals.{c-read-message-frame, c-read-payload-frame, c-encode-message-frame, c-prepend-message-frame}
 pub use Rattle.demands.specs.Refusals.{c-insert-frame, c-read-sounding-frame}
+pub use Rattle.demands.specs.IndexVerdict.{make-index-frame, read-line-frame, write-line-frame, c-make-index-frame, c-read-line-frame}
+pub use Rattle.demands.specs.IndexVerdict.{c-write-line-frame}
 -- ---- THE FIRST DEMAND: every entry takes every input and ends, and bad bytes, caps or tables get a numbered refusal
 
 -- That it ends, and asks nothing of its caller, is in the contract of each function: no public one has a `requires`. Any two outcomes are equal
@@ -32,6 +34,8 @@ pub use Rattle.demands.specs.VerdictsC.{c-skip-field-number, c-step-at-n
 pub use Rattle.demands.specs.VerdictsC.{c-pick-at-number, c-pick-early-number, c-encode-message-number, c-prepend-message-number}
 pub use Rattle.demands.specs.VerdictsC.{c-encoded-len-message-number, c-insert-number, c-read-sounding-number}
 pub use Rattle.demands.specs.SoundingVerdict.{read-sounding-number}
+pub use Rattle.demands.specs.IndexVerdict.{make-index-number, pick-indexed-number, write-line-number, read-line-number}
+pub use Rattle.demands.specs.IndexVerdict.{c-make-index-number, c-pick-indexed-number, c-write-line-number, c-read-line-number}
 -- ---- THE SECOND DEMAND: values, places and names are those of the rules
 
 -- Reading and writing are held to the definitions by the contracts themselves. The cases of FORMAT.md that are marked P, over the programs:
@@ -45,6 +49,10 @@ pub use Rattle.demands.specs.Lengths.{unsigned-back, table-limits}
 pub use Rattle.demands.specs.Inserting.{Inserting, fields, good-again}
 -- a lookup that stops early answers as the full one does wherever that does not refuse
 pub use Rattle.demands.specs.Early.{Promise, every-early}
+-- a lookup through the index that was made of a message is the full pick; what that index means; which index fits a message
+pub use Rattle.demands.specs.Indexing.{index-lookup, Means, index-meaning, fits-exactly, fits-made}
+-- a line of an index there and back; what was made of a message can always be written
+pub use Rattle.demands.specs.Lines.{line-again, line-read-back, made-is-written}
 -- ---- THE THIRD DEMAND: a message is refused exactly if no list of fields is written as it
 
 -- A message read whole, with a table of at least half as many records as it has bytes, is refused exactly if no list of fields in non-falling tag order is

@@ -86,6 +86,13 @@ pub use Rattle.entry_reader.proofs.Only.{step-through-one as reader-step-throug
 pub use Rattle.entry_reader.proofs.Only.{count-fields-one as reader-count-fields-one}
 -- a message read and written back
 pub use Rattle.entry_copy.proofs.Only.{copy-message-one as copy-copy-message-one}
+-- an index beside a stored message
+pub use Rattle.index.proofs.Only.{sound-one as index-sound-one}
+pub use Rattle.index_make.proofs.Only.{make-index-one as index-make-index-one}
+pub use Rattle.index_make.proofs.Only.{index-fits-one as index-index-fits-one}
+pub use Rattle.index_pick.proofs.Only.{pick-indexed-one as index-pick-indexed-one}
+pub use Rattle.index_line.proofs.Only.{write-line-one as index-write-line-one}
+pub use Rattle.index_line.proofs.Only.{read-line-one as index-read-line-one}
 -- digits
 pub use Rattle.text_hex.proofs.Only.{digit-of-one as hex-digit-of-one}
 pub use Rattle.text_hex.proofs.Only.{frame-of-one as hex-frame-of-one}
@@ -119,6 +126,7 @@ pub use Rattle.c_words.proofs.Only.{key-len-words-one as c-key-len-words-one}
 pub use Rattle.c_words.proofs.Only.{written-words-one as c-written-words-one}
 pub use Rattle.c_words.proofs.Only.{inserted-words-one as c-inserted-words-one}
 pub use Rattle.c_words.proofs.Only.{pick-words-one as c-pick-words-one}
+pub use Rattle.c_words.proofs.Only.{indexed-words-one as c-indexed-words-one}
 pub use Rattle.c_words.proofs.Only.{several-words-one as c-several-words-one}
 pub use Rattle.c_words.proofs.Only.{early-words-one as c-early-words-one}
 pub use Rattle.c_words.proofs.Only.{sounding-words-one as c-sounding-words-one}
@@ -142,6 +150,11 @@ pub use Rattle.capgauze_c.proofs.Only.{read-payload-one as c-read-payload-one}
 pub use Rattle.capgauze_c.proofs.Only.{pick-one as c-pick-one}
 pub use Rattle.capgauze_c.proofs.Only.{pick-at-one as c-pick-at-one}
 pub use Rattle.capgauze_c.proofs.Only.{pick-early-one as c-pick-early-one}
+pub use Rattle.capgauze_c.proofs.Only.{make-index-one as c-make-index-one}
+pub use Rattle.capgauze_c.proofs.Only.{index-fits-one as c-index-fits-one}
+pub use Rattle.capgauze_c.proofs.Only.{pick-indexed-one as c-pick-indexed-one}
+pub use Rattle.capgauze_c.proofs.Only.{write-line-one as c-write-line-one}
+pub use Rattle.capgauze_c.proofs.Only.{read-line-one as c-read-line-one}
 pub use Rattle.capgauze_c.proofs.Only.{encode-message-one as c-encode-message-one}
 pub use Rattle.capgauze_c.proofs.Only.{prepend-message-one as c-prepend-message-one}
 pub use Rattle.capgauze_c.proofs.Only.{encoded-len-message-one as c-encoded-len-message-one}

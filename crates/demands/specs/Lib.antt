@@ -18,4 +18,9 @@ pub mod AllOnesAlone
 pub mod Cases
 pub mod Determined
 pub mod Early
+pub mod IndexLaws
+pub mod Indexing
+pub mod IndexRules
+pub mod IndexVerdict
+pub mod Lines
 pub mod Formats

@@ -148,7 +148,7 @@ put p q b xs e h =
       same = length-append (take p b ++ xs) (drop q b) ∙ simp length-drop (omega arith);
     }
 
-put-front : (b xs : List ℕ) (q : ℕ) → length xs ≡ q → q ≤ length b → Framed 0 0 q b (xs ++ drop q b)
+pub put-front : (b xs : List ℕ) (q : ℕ) → length xs ≡ q → q ≤ length b → Framed 0 0 q b (xs ++ drop q b)
 put-front b xs q e h = put 0 q b xs (omega arith) h
 
 put-end : (b xs : List ℕ) (p q : ℕ) → p ≡ length b - length xs → q ≡ length b → length xs ≤ length b → Framed 0 p q b (take (length b - length xs) b ++ xs)
@@ -168,7 +168,7 @@ below a b h n = go (ltb a b) refl
     go false x = absurd (n (omega (arith, ltb-false a b x)))
 
 module _ (b xs : List ℕ) where
-  stored-front : AtFront b (storedTold (atFront b xs))
+  pub stored-front : AtFront b (storedTold (atFront b xs))
   unfolding atFront
   stored-front = go (leb (length xs) (length b)) refl
     where
