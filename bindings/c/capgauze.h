@@ -25,6 +25,8 @@ extern "C" {
 #define CAPGAUZE_LIMIT 65535
 /* The words of a record; a table of `words` words has room for words / CAPGAUZE_RECORD_WORDS records. */
 #define CAPGAUZE_RECORD_WORDS 4
+/* The words of an index's entry; an index of `words` words has room for words / CAPGAUZE_INDEX_WORDS tags. */
+#define CAPGAUZE_INDEX_WORDS 3
 
 /* The number of an answer. */
 enum {
@@ -34,13 +36,16 @@ enum {
     CAPGAUZE_TAG_OVERFLOWED = 3, /* a tag, or a rise of tags, above 4,294,967,295 */
     CAPGAUZE_TOO_LONG = 4,       /* slice, or bytes to be written, above CAPGAUZE_LIMIT */
     CAPGAUZE_NO_ROOM = 5,        /* a good message with more fields than the table has room, a buffer too short for
-                                    what is to be written, an insertion into a full table */
+                                    what is to be written, an insertion into a full table; an index with more tags
+                                    than there is room for */
     CAPGAUZE_BAD_RECORD = 6,     /* a record that is not good, a count above the room, a wire type above 3 */
     CAPGAUZE_OUT_OF_ORDER = 7,   /* a tag below the one before it */
     CAPGAUZE_BAD_CAP = 8,        /* a place, start or end above the slice's length */
     CAPGAUZE_WRONG_WIRE_TYPE = 9, /* a sounding's field of another wire type */
     CAPGAUZE_OUT_OF_RANGE = 10,  /* a station, pressure, temperature or depression outside its range */
     CAPGAUZE_REPEATED = 11,      /* a tag that stands more than once where one field of it is wanted */
+    CAPGAUZE_BAD_INDEX = 12,     /* an index or a line of one that may not be used, or that is seen not to be of the
+                                    message */
     CAPGAUZE_MISSING_FIELD = 13  /* a sounding without station or launch, a level without pressure */
 };
 
@@ -139,6 +144,43 @@ capgauze_several capgauze_pick_at(const uint8_t *s, size_t s_len, uint32_t tag, 
  * key's value nor what follows is read. keys is the number of keys read: one for each field up to the tag, and one for
  * the key above, if there is one. Refused: the number alone; Repeated after the refusals of what was read. */
 capgauze_early capgauze_pick_early(const uint8_t *s, size_t s_len, uint32_t tag);
+
+/* ---- An index beside a stored message ----
+ * An entry is three words: a tag, the place of the first key of that tag, the number of its fields. An index has one for
+ * each tag of a message, in rising order. `tags` is how many of its entries are used; the words behind them are not looked
+ * at. An index is tested whole before it is used, also the entries that nobody asks for. */
+
+/* Makes the index of a message: value is the number of its tags, whose words go to the front of `index`; the words behind
+ * them stay. Refusals in order: TooLong; Truncated, InvalidVarint, TagOverflowed of the whole message; NoRoom, which does
+ * not say how many tags there are. Refused: value 0, and `index` stays as it was. */
+capgauze_number capgauze_make_index(const uint8_t *s, size_t s_len, uint64_t *index, size_t words);
+
+/* 1 exactly if make_index would accept the message, with room enough, as one of so many tags, and leave the words that
+ * stand in `index`; else 0. So it is 0 for every message that is refused, and for more tags than `index` has room for. */
+uint64_t capgauze_index_fits(const uint8_t *s, size_t s_len, const uint64_t *index, size_t words, size_t tags);
+
+/* The only field of the tag, looked up through an index, as pick answers it; the same as pick where the index was made from
+ * this message. Only the fields that the index counts of the tag are read, from the stated place on, with 0 as the tag
+ * before. The type and the value are what stands there; the tag of the first key is not compared with the one asked for.
+ * Refusals in order: BadIndex for more tags than there is room for, a tag above 4,294,967,295, tags that do not rise, a
+ * count of 0, a place not below s_len; TooLong; then, if the tag stands in the index, Truncated, InvalidVarint,
+ * TagOverflowed as met, with BadIndex where the message ends before all fields are read or a later one has another tag
+ * than the first; Repeated for a count above 1. Absent: found is 0. Refused: the number alone. */
+capgauze_picked capgauze_pick_indexed(const uint8_t *s, size_t s_len, const uint64_t *index, size_t words, size_t tags,
+                                      uint32_t tag);
+
+/* An index as a line of characters: `01`, then for each tag 16 hexadecimal digits, capitals: eight of the tag, four of
+ * the place, four of the count. Value is the line's length, 2 + 16 * tags; it goes to the front of `line` without an end of
+ * line, all other bytes stay. Refusals in order: BadIndex for more tags than there is room for, a tag above 4,294,967,295,
+ * tags that do not rise, a place above 65,535, a count of 0 or above 65,535; NoRoom. Refused: value 0, and `line` stays as
+ * it was. An index that make_index made is never refused as BadIndex. */
+capgauze_number capgauze_write_line(const uint64_t *index, size_t words, size_t tags, uint8_t *line, size_t line_len);
+
+/* A line as an index: value is the number of its tags, (line_len - 2) / 16, whose words go to the front of `index`; the
+ * words behind them stay. The line may have any length. Refusals in order: BadIndex for a line that write_line does not
+ * write: another edition, no whole entries, a character that is not 0 to 9 or A to F, tags that do not rise, a count of 0;
+ * NoRoom. No message is at hand, so a place may be any number. Refused: value 0, and `index` stays as it was. */
+capgauze_number capgauze_read_line(const uint8_t *line, size_t line_len, uint64_t *index, size_t words);
 
 /* ---- Soundings ---- */
 

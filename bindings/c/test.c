@@ -186,6 +186,223 @@ static void writing(void) {
     TABLE_IS(0, 1, 0, 2, 1, 0, 5, 0, 77);
 }
 
+/* The index that is lent next: tag, place and count of each of its entries. */
+#define INDEX(...) lay(sizeof(const uint64_t[]){__VA_ARGS__} / 8, (const uint64_t[]){__VA_ARGS__})
+#define PICK(tags, tag) capgauze_pick_indexed(S, TABLE, tags, tag)
+#define FITS(tags) capgauze_index_fits(S, TABLE, tags)
+
+static void indexes(void) {
+    use("04FFFEFEFEFEFEFEFEFE0902C0DE0201000000");
+    lay(7, 0);
+    SAME(capgauze_make_index(S, TABLE), 0, 2);
+    TABLE_IS(1, 0, 1, 3, 10, 2, 77);
+    SAME(FITS(2), 1);
+    SAME(FITS(1), 0);
+    SAME(FITS(3), 0); /* more than there are words for */
+    SAME(FITS(SIZE_MAX), 0);
+    SAME(PICK(2, 1), 0, 1, 0, UINT64_MAX, 0);
+    SAME(PICK(2, 2), 0, 0, 0, 0, 0);
+    SAME(PICK(2, 3), 11, 0, 0, 0, 0);
+    SAME(PICK(1, 3), 0, 0, 0, 0, 0);
+    SAME(PICK(3, 1), 12, 0, 0, 0, 0);
+    SAME(PICK(SIZE_MAX, 1), 12, 0, 0, 0, 0);
+    /* one word off, and it is the index of another message */
+    for (size_t i = 0; i < 6; i++) {
+        table[i]++;
+        SAME(FITS(2), 0);
+        table[i]--;
+    }
+    SAME(FITS(2), 1);
+
+    /* refusals leave the index, and NoRoom tells no number */
+    lay(5, 0);
+    SAME(capgauze_make_index(S, TABLE), 5, 0);
+    len = 18;
+    SAME(capgauze_make_index(S, TABLE), 1, 0);
+    SAME(FITS(1), 0);
+    use("80FFFEFE3E00");
+    SAME(capgauze_make_index(S, TABLE), 3, 0);
+    use("80FFFEFEFEFEFEFEFE00");
+    SAME(capgauze_make_index(S, TABLE), 2, 0);
+    len = CAPGAUZE_LIMIT + 1;
+    bytes = lend(len);
+    SAME(capgauze_make_index(S, TABLE), 4, 0);
+    TABLE_IS(77, 77, 77, 77, 77);
+
+    /* the longest message, all of one tag */
+    len = CAPGAUZE_LIMIT - 1;
+    bytes = lend(len);
+    lay(3, 0);
+    SAME(capgauze_make_index(S, TABLE), 0, 1);
+    TABLE_IS(0, 0, 32767);
+    SAME(FITS(1), 1);
+    SAME(PICK(1, 0), 11, 0, 0, 0, 0);
+
+    /* the empty message; and `00`, which is cut short, fits nothing */
+    use("");
+    lay(0, 0);
+    SAME(capgauze_make_index(S, TABLE), 0, 0);
+    SAME(FITS(0), 1);
+    SAME(FITS(1), 0);
+    SAME(PICK(0, 0), 0, 0, 0, 0, 0);
+    INDEX(0, 0, 1);
+    SAME(FITS(0), 1);
+    SAME(FITS(1), 0);
+    SAME(PICK(1, 0), 12, 0, 0, 0, 0);
+    use("00");
+    SAME(FITS(0), 0);
+    SAME(FITS(1), 0);
+}
+
+static void lookups(void) {
+    /* TooLong or Absent: the index, then the limit, then the lookup */
+    len = CAPGAUZE_LIMIT + 1;
+    bytes = lend(len);
+    lay(0, 0);
+    SAME(PICK(0, 0), 4, 0, 0, 0, 0);
+    SAME(PICK(1, 0), 12, 0, 0, 0, 0);
+    INDEX(1, 0, 1);
+    SAME(PICK(1, 0), 4, 0, 0, 0, 0);
+    /* every entry is tested, also those not asked */
+    use("0000");
+    INDEX(0, 0, 1, 1, 9, 1);
+    SAME(PICK(2, 0), 12, 0, 0, 0, 0);
+    SAME(PICK(1, 0), 0, 1, 0, 0, 0);
+    INDEX(0, 0, 1, 1, 2, 1);
+    SAME(PICK(2, 0), 12, 0, 0, 0, 0);
+    INDEX(0, 0, 1, 1, 1, 0);
+    SAME(PICK(2, 0), 12, 0, 0, 0, 0);
+    INDEX(0, 0, 1, 0, 0, 1);
+    SAME(PICK(2, 0), 12, 0, 0, 0, 0);
+    INDEX(0, 0, 1, 4294967296, 0, 1);
+    SAME(PICK(2, 0), 12, 0, 0, 0, 0);
+    INDEX(0, 0, 1, 4294967295, 0, 1);
+    SAME(PICK(2, 0), 0, 1, 0, 0, 0);
+    SAME(PICK(2, 4294967295), 0, 1, 0, 0, 0);
+    /* a count that no message has: the message ends early */
+    INDEX(0, 0, UINT64_MAX);
+    SAME(PICK(1, 0), 12, 0, 0, 0, 0);
+    /* the first key may overflow, and a later one; a later one of another tag */
+    use("80FFFEFE3E00");
+    INDEX(7, 0, 1);
+    SAME(PICK(1, 7), 3, 0, 0, 0, 0);
+    use("000080FFFEFE3E00");
+    INDEX(0, 0, 2);
+    SAME(PICK(1, 0), 3, 0, 0, 0, 0);
+    use("00000400");
+    SAME(PICK(1, 0), 12, 0, 0, 0, 0);
+    use("000004"); /* and its value is not read */
+    SAME(PICK(1, 0), 12, 0, 0, 0, 0);
+    use("000000");
+    SAME(PICK(1, 0), 1, 0, 0, 0, 0);
+    use("00000000");
+    SAME(PICK(1, 0), 11, 0, 0, 0, 0);
+    /* what stands at the place is the field, of whatever tag and type */
+    use("0500");
+    INDEX(7, 0, 1);
+    SAME(PICK(1, 7), 0, 1, 1, 2, 0);
+    use("0505");
+    SAME(PICK(1, 7), 1, 0, 0, 0, 0);
+    use("0780FFFEFEFEFEFEFEFE");
+    INDEX(7, 2, 1);
+    SAME(PICK(1, 7), 1, 0, 0, 0, 0);
+    use("0480FFFEFEFEFEFEFEFE");
+    INDEX(7, 0, 1);
+    SAME(PICK(1, 7), 2, 0, 0, 0, 0);
+    /* later keys are read behind the first key's tag */
+    use("FCFEFEFE3E000400");
+    INDEX(7, 0, 2);
+    SAME(PICK(1, 7), 3, 0, 0, 0, 0);
+}
+
+static void text(size_t n, const char *from) {
+    len = n;
+    bytes = memcpy(lend(n), from, n);
+}
+#define LINE(from) text(sizeof from - 1, from)
+
+static void line_is(int line, const char *want, size_t size) {
+    calls++;
+    if (size == buf_len && !memcmp(buf, want, size)) return;
+    failures++, printf("test.c:%d: the line is %.*s\n", line, (int)buf_len, buf);
+}
+#define LINE_IS(want) line_is(__LINE__, want, sizeof want - 1)
+
+static void lines(void) {
+    INDEX(1, 0, 1, 3, 10, 2, 77);
+    room(35);
+    SAME(capgauze_write_line(TABLE, 2, BUF), 0, 34);
+    LINE_IS("01000000010000000100000003000A0002\xA5");
+    text(34, (const char *)buf);
+    lay(7, 0);
+    SAME(capgauze_read_line(S, TABLE), 0, 2);
+    TABLE_IS(1, 0, 1, 3, 10, 2, 77);
+    lay(5, 0);
+    SAME(capgauze_read_line(S, TABLE), 5, 0);
+    TABLE_IS(77, 77, 77, 77, 77);
+    /* no tags */
+    room(2);
+    SAME(capgauze_write_line(TABLE, 0, BUF), 0, 2);
+    BUF_IS("3031");
+    room(1);
+    SAME(capgauze_write_line(TABLE, 0, BUF), 5, 0);
+    SAME(capgauze_write_line(TABLE, 2, BUF), 12, 0); /* before NoRoom */
+    BUF_IS("A5");
+    lay(0, 0);
+    LINE("01");
+    SAME(capgauze_read_line(S, TABLE), 0, 0);
+    LINE("");
+    SAME(capgauze_read_line(S, TABLE), 12, 0);
+    /* what has no line; refused, the buffer stays */
+    room(18);
+    INDEX(0, 65535, 65535);
+    SAME(capgauze_write_line(TABLE, 1, BUF), 0, 18);
+    LINE_IS("0100000000FFFFFFFF");
+    room(17);
+    SAME(capgauze_write_line(TABLE, 1, BUF), 5, 0);
+    INDEX(0, 65536, 1);
+    SAME(capgauze_write_line(TABLE, 1, BUF), 12, 0);
+    INDEX(0, 0, 65536);
+    SAME(capgauze_write_line(TABLE, 1, BUF), 12, 0);
+    INDEX(0, 0, 0);
+    SAME(capgauze_write_line(TABLE, 1, BUF), 12, 0);
+    INDEX(4294967296, 0, 1);
+    SAME(capgauze_write_line(TABLE, 1, BUF), 12, 0);
+    INDEX(1, 0, 1, 1, 0, 1);
+    SAME(capgauze_write_line(TABLE, 2, BUF), 12, 0);
+    SAME(capgauze_write_line(TABLE, 3, BUF), 12, 0);
+    SAME(capgauze_write_line(TABLE, SIZE_MAX, BUF), 12, 0);
+    BUF_IS("A5A5A5A5A5A5A5A5A5A5A5A5A5A5A5A5A5");
+    /* what is no line; refused, the index stays */
+    lay(6, 0);
+    LINE("0");
+    SAME(capgauze_read_line(S, TABLE), 12, 0);
+    LINE("02");
+    SAME(capgauze_read_line(S, TABLE), 12, 0);
+    LINE("11");
+    SAME(capgauze_read_line(S, TABLE), 12, 0);
+    LINE("010");
+    SAME(capgauze_read_line(S, TABLE), 12, 0);
+    LINE("01\n");
+    SAME(capgauze_read_line(S, TABLE), 12, 0);
+    LINE("010000000a00000001");
+    SAME(capgauze_read_line(S, TABLE), 12, 0);
+    LINE("010000000G00000001");
+    SAME(capgauze_read_line(S, TABLE), 12, 0);
+    LINE("010000000A00000000");
+    SAME(capgauze_read_line(S, TABLE), 12, 0);
+    LINE("010000000A000000010000000A00000001");
+    SAME(capgauze_read_line(S, TABLE), 12, 0);
+    LINE("010000000A000000010000000B000000010000000A00000001"); /* before NoRoom */
+    SAME(capgauze_read_line(S, TABLE), 12, 0);
+    LINE("010000000A000000010000000B000000010000000C00000001");
+    SAME(capgauze_read_line(S, TABLE), 5, 0);
+    TABLE_IS(77, 77, 77, 77, 77, 77);
+    LINE("010000000AFFFF0001FFFFFFFF0000FFFF");
+    SAME(capgauze_read_line(S, TABLE), 0, 2);
+    TABLE_IS(10, 65535, 1, 4294967295, 0, 65535);
+}
+
 static void soundings(void) {
     use("04010400050E0464040304FFFEFEFEFEFEFEFEFE");
     lay(6, (const uint64_t[]){77, 77, 77, 77, 77, 77});
@@ -213,6 +430,9 @@ int main(void) {
     parts();
     messages();
     writing();
+    indexes();
+    lookups();
+    lines();
     soundings();
     printf("%d answers, %d differ\n", calls, failures);
     return failures != 0;

@@ -12,10 +12,12 @@ A message is bytes, or anything that has its buffer. A table is a writable buffe
 `words` makes, an array('Q'), a numpy array of uint64. A buffer to be written to is a bytearray or the like. Memory that
 is written must overlap nothing else that is lent.
 
+An index is a table of three words a tag.
+
 A refused call raises Refused and leaves what was lent as it was. A number that its C type can't hold raises
 OverflowError; it never reaches the library.
 
-`records` and `message` at the end of this file do without a table of one's own.
+`records` and `message` at the end of this file do without a table of one's own, and so does the class Index.
 """
 import ctypes
 import operator
@@ -25,10 +27,12 @@ from collections import namedtuple
 
 LIMIT = 65_535  # the longest message
 RECORD_WORDS = 4
+INDEX_WORDS = 3
 LEVEL_WORDS = 5
 VARINT, LENGTH_DELIMITED, THIRTY_TWO_BIT, SIXTY_FOUR_BIT = range(4)
 NAMES = ("accepted", "Truncated", "InvalidVarint", "TagOverflowed", "TooLong", "NoRoom", "BadRecord", "OutOfOrder",
-         "BadCap", "WrongWireType", "OutOfRange", "Repeated", None, "MissingField")
+         "BadCap", "WrongWireType", "OutOfRange", "Repeated", "BadIndex",
+         "MissingField")
 
 # What accepted calls answer; a record's words are a table's.
 Record = namedtuple("Record", "tag type value length")
@@ -41,6 +45,7 @@ Written = namedtuple("Written", "start length")
 Picked = namedtuple("Picked", "type value length")
 Several = namedtuple("Several", "count picked")
 Early = namedtuple("Early", "keys picked")
+Entry = namedtuple("Entry", "tag place count")
 Sounding = namedtuple("Sounding", "station launch levels")
 Level = namedtuple("Level", "pressure_pa temperature_c dewpoint_depression_c")
 
@@ -94,6 +99,11 @@ _ENTRIES = {
     "pick": (_answer("number found type value length"), *_BYTES, _U32),
     "pick_at": (_answer("number count found type value length"), *_BYTES, _U32, _SIZE),
     "pick_early": (_answer("number keys found type value length"), *_BYTES, _U32),
+    "make_index": (_NUMBER, *_BYTES, *_TABLE),
+    "index_fits": (_U64, *_BYTES, *_TABLE, _SIZE),
+    "pick_indexed": (_answer("number found type value length"), *_BYTES, *_TABLE, _SIZE, _U32),
+    "write_line": (_NUMBER, *_TABLE, _SIZE, *_BYTES),
+    "read_line": (_NUMBER, *_BYTES, *_TABLE),
     "read_sounding": (_answer("number station launch levels"), *_BYTES, *_TABLE),
 }
 
@@ -137,7 +147,8 @@ def call(name, *arguments):
     return tuple(getattr(answer, field) for field, _ in answer._fields_)
 
 
-_NUMBER_ALONE = {"pick", "pick_at", "pick_early", "read_sounding"}  # what their refusals answer
+# what their refusals answer
+_NUMBER_ALONE = {"pick", "pick_at", "pick_early", "make_index", "pick_indexed", "write_line", "read_line", "read_sounding"}
 
 
 def _accepted(name, *arguments):
@@ -278,6 +289,104 @@ def pick_early(s, tag):
     """
     keys, found, *picked = _accepted("pick_early", *lent(s), tag)
     return Early(keys, Picked(*picked) if found else None)
+
+
+# ---- An index beside a stored message ----
+
+def make_index(s, index):
+    """Makes the index of a message, three words a tag: how many tags it has.
+
+    >>> index = words(6)
+    >>> make_index(bytes.fromhex("040500060801"), index)
+    2
+    >>> Entry(*index[3:])
+    Entry(tag=3, place=4, count=1)
+    """
+    return _accepted("make_index", *lent(s), *room(index, ctypes.c_uint64))[0]
+
+
+def index_fits(s, index, tags):
+    """Whether the index's first entries are those that make_index makes of the message, no more and no less."""
+    return bool(call("index_fits", *lent(s), *room(index, ctypes.c_uint64), tags))
+
+
+def pick_indexed(s, index, tags, tag):
+    """The only field of the tag through an index, or None: what pick answers, if the index was made from this message.
+
+    >>> pick_indexed(bytes.fromhex("040500060801"), array("Q", (1, 0, 2, 3, 4, 1)), 2, 3)
+    Picked(type=0, value=1, length=0)
+    >>> pick_indexed(bytes.fromhex("0405"), array("Q", (1, 0, 2, 3, 4, 1)), 2, 3)
+    Traceback (most recent call last):
+    capgauze.Refused: BadIndex (12)
+    """
+    found, *picked = _accepted("pick_indexed", *lent(s), *room(index, ctypes.c_uint64), tags, tag)
+    return Picked(*picked) if found else None
+
+
+def write_line(index, tags, line):
+    """Writes an index as a line of 2 + 16 * tags characters to the buffer's front: its length."""
+    return _accepted("write_line", *room(index, ctypes.c_uint64), tags, *room(line))[0]
+
+
+def read_line(line, index):
+    """Reads a line as an index, three words a tag: how many tags it has."""
+    return _accepted("read_line", *lent(line), *room(index, ctypes.c_uint64))[0]
+
+
+class Index:
+    """The index of a message, made once and kept beside it; its words are its own.
+
+    >>> message = bytes.fromhex("040500060801")
+    >>> index = Index(message)
+    >>> index.pick(message, 3)
+    Picked(type=0, value=1, length=0)
+    >>> index.line()
+    '0100000001000000020000000300040001'
+    >>> Index.of_line(index.line()).fits(message)
+    True
+    >>> list(index)
+    [Entry(tag=1, place=0, count=2), Entry(tag=3, place=4, count=1)]
+    """
+
+    def __init__(self, s):
+        s = s if isinstance(s, bytes) else bytes(memoryview(s))
+        self._fill(make_index, s, min(len(s), LIMIT) // 2)
+
+    @classmethod
+    def of_line(cls, line):
+        """The index of a line, which is a text or bytes, without its end."""
+        line = line.encode() if isinstance(line, str) else bytes(memoryview(line))
+        index = cls.__new__(cls)
+        index._fill(read_line, line, len(line) // 16)
+        return index
+
+    def _fill(self, fill, s, most):
+        table = words(INDEX_WORDS * most)
+        self.words = table[:INDEX_WORDS * fill(s, table)]
+
+    def __len__(self):
+        return len(self.words) // INDEX_WORDS
+
+    def __iter__(self):
+        rows = range(0, len(self.words), INDEX_WORDS)
+        return (Entry(*self.words[at:at + INDEX_WORDS]) for at in rows)
+
+    def __eq__(self, other):
+        return self.words == other.words if isinstance(other, Index) else NotImplemented
+
+    def fits(self, s):
+        """Whether it is the index of this message."""
+        return index_fits(s, self.words, len(self))
+
+    def pick(self, s, tag):
+        """The only field of the tag, or None, as pick_indexed answers it."""
+        return pick_indexed(s, self.words, len(self), tag)
+
+    def line(self):
+        """Its line, without an end."""
+        line = bytearray(2 + 16 * len(self))
+        write_line(self.words, len(self), line)
+        return line.decode()
 
 
 # ---- Soundings ----

@@ -159,6 +159,91 @@ class Lent(unittest.TestCase):
         self.assertEqual(buf, b"\xA5" * 9)
 
 
+class Indexes(unittest.TestCase):
+    WORDS = [1, 0, 1, 3, 10, 2]
+    LINE = b"01000000010000000100000003000A0002"
+
+    def refused(self, number, call, *arguments):
+        with self.assertRaises(capgauze.Refused) as caught:
+            call(*arguments)
+        self.assertEqual((caught.exception.number, caught.exception.carried), (number, {}))
+
+    def test_made(self):
+        index = array("Q", [77] * 7)
+        self.assertEqual(capgauze.make_index(MESSAGE, index), 2)
+        self.assertEqual(list(index), self.WORDS + [77])
+        small = array("Q", [77] * 5)
+        self.refused(5, capgauze.make_index, MESSAGE, small)
+        self.refused(1, capgauze.make_index, MESSAGE[:-1], small)
+        self.refused(4, capgauze.make_index, bytes(capgauze.LIMIT + 1), small)
+        self.assertEqual(list(small), [77] * 5)
+
+    def test_fits(self):
+        index = array("Q", self.WORDS)
+        self.assertIs(capgauze.index_fits(MESSAGE, index, 2), True)
+        for tags in (0, 1, 3, 2**64 - 1):
+            self.assertIs(capgauze.index_fits(MESSAGE, index, tags), False)
+        for i in range(6):
+            index[i] += 1
+            self.assertFalse(capgauze.index_fits(MESSAGE, index, 2))
+            index[i] -= 1
+        self.assertFalse(capgauze.index_fits(MESSAGE, array("Q", self.WORDS + [4, 0, 1]), 3))
+        self.assertTrue(capgauze.index_fits(b"", index, 0))
+        self.assertFalse(capgauze.index_fits(MESSAGE[:-1], index, 2))
+
+    def test_looked_up(self):
+        index = array("Q", self.WORDS)
+        self.assertEqual(capgauze.pick_indexed(MESSAGE, index, 2, 1), capgauze.pick(MESSAGE, 1))
+        self.assertIsNone(capgauze.pick_indexed(MESSAGE, index, 2, 2))
+        self.refused(11, capgauze.pick_indexed, MESSAGE, index, 2, 3)
+        self.refused(12, capgauze.pick_indexed, MESSAGE, index, 3, 1)
+        self.refused(12, capgauze.pick_indexed, MESSAGE[:10], index, 2, 1)
+        self.refused(4, capgauze.pick_indexed, bytes(capgauze.LIMIT + 1), index, 0, 1)
+        self.refused(12, capgauze.pick_indexed, b"\0\0", array("Q", (0, 0, 2**64 - 1)), 1, 0)
+        self.refused(12, capgauze.pick_indexed, b"\0\0", array("Q", (0, 0, 1, 0, 0, 1)), 2, 0)
+        self.refused(12, capgauze.pick_indexed, bytes.fromhex("00000400"), array("Q", (0, 0, 2)), 1, 0)
+        self.refused(3, capgauze.pick_indexed, bytes.fromhex("FCFEFEFE3E000400"), array("Q", (7, 0, 2)), 1, 7)
+        self.assertEqual(capgauze.pick_indexed(b"\x05\0", array("Q", (7, 0, 1)), 1, 7), (1, 2, 0))
+        with self.assertRaises(OverflowError):
+            capgauze.pick_indexed(MESSAGE, index, 2, 2**32)
+
+    def test_lines(self):
+        line = bytearray(b"-" * 35)
+        self.assertEqual(capgauze.write_line(array("Q", self.WORDS), 2, line), 34)
+        self.assertEqual(line, self.LINE + b"-")
+        index = array("Q", [77] * 6)
+        self.refused(12, capgauze.read_line, line, index)
+        self.refused(12, capgauze.read_line, self.LINE.lower(), index)
+        for none in (b"", b"0", b"02", b"010000000A00000000", b"010000000A000000010000000A00000001"):
+            self.refused(12, capgauze.read_line, none, index)
+        self.refused(5, capgauze.read_line, self.LINE, index[:5])
+        self.assertEqual(list(index), [77] * 6)
+        self.assertEqual(capgauze.read_line(self.LINE, index), 2)
+        self.assertEqual(list(index), self.WORDS)
+        self.assertEqual(capgauze.read_line(b"01", array("Q")), 0)
+        for index, tags, number in (((), 0, 5), ((0, 65_536, 1), 1, 12), ((0, 0, 65_536), 1, 12), ((0, 0, 0), 1, 12)):
+            line = bytearray(b"-")
+            self.refused(number, capgauze.write_line, array("Q", index), tags, line)
+            self.assertEqual(line, b"-")
+
+    def test_an_index_with_its_own_words(self):
+        for kind in (bytes, bytearray, memoryview):
+            index = capgauze.Index(kind(MESSAGE))
+            self.assertEqual((len(index), list(index)), (2, [(1, 0, 1), (3, 10, 2)]))
+            self.assertTrue(index.fits(kind(MESSAGE)))
+            self.assertEqual(index.pick(kind(MESSAGE), 1), (0, 2**64 - 1, 0))
+        self.assertEqual(index.line(), self.LINE.decode())
+        for line in (self.LINE, self.LINE.decode(), bytearray(self.LINE)):
+            self.assertEqual(capgauze.Index.of_line(line), index)
+        self.assertEqual(capgauze.Index(b"").line(), "01")
+        self.assertNotEqual(capgauze.Index(b""), index)
+        self.refused(12, capgauze.Index.of_line, "01é")
+        self.refused(1, capgauze.Index, MESSAGE[:-1])
+        self.refused(4, capgauze.Index, bytes(capgauze.LIMIT + 1))
+        tags = capgauze.Index(b"\x04\0" * 32_767)
+        self.assertEqual(capgauze.Index.of_line(tags.line()), tags)
+
+
 class Soundings(unittest.TestCase):
     ICED = bytes.fromhex("04010400050E0464040304FFFEFEFEFEFEFEFEFE")
 

@@ -2,7 +2,7 @@
 //!
 //! Every function here calls one entry of the static library that `rt staticlib capgauze_c` proves and writes (x86-64
 //! Linux); the types only put names on its numbers. No wrapper refuses anything itself. A refused call leaves all that
-//! it was lent as it was. Nothing is allocated, and nothing panics.
+//! it was lent as it was. Nothing is allocated, but by [`Index`] (the feature `alloc`), and nothing panics.
 //!
 //! A message is read into a table, four words a record ([`Record`]); records are written from one. Payloads are parts of
 //! the message, not copies. Half as many records as a message has bytes always suffice.
@@ -27,8 +27,12 @@
 // memory; what is lent to be written is a `&mut` slice, so it overlaps nothing else. The library asks nothing else.
 
 mod ffi;
+#[cfg(feature = "alloc")]
+mod index;
 mod types;
 
+#[cfg(feature = "alloc")]
+pub use index::Index;
 pub use types::*;
 
 /// The longest slice that is read, and the longest message that is written.
@@ -45,9 +49,9 @@ compile_error!("capgauze is for 64-bit lengths");
 /// `Ok` of an accepted answer, or its refusal. The library's numbers are those of [`Refusal`].
 fn accepted(number: u64) -> Result<(), Refusal> {
     use Refusal::*;
-    const ALL: [Refusal; 12] = [
+    const ALL: [Refusal; 13] = [
         Truncated, InvalidVarint, TagOverflowed, TooLong, NoRoom, BadRecord, OutOfOrder, BadCap, WrongWireType,
-        OutOfRange, Repeated, MissingField,
+        OutOfRange, Repeated, BadIndex, MissingField,
     ];
     match number {
         0 => Ok(()),
@@ -81,6 +85,11 @@ fn varint(answer: ffi::Varint) -> Result<Decoded<u64>, RefusedAt> {
         Ok(()) => Ok(Decoded { value: answer.value, next: place }),
         Err(refusal) => Err(RefusedAt { refusal, place }),
     }
+}
+
+fn picked(answer: ffi::Picked) -> Result<Option<Value>, Refusal> {
+    accepted(answer.number)?;
+    Ok((answer.found != 0).then(|| value(answer.kind, answer.value, answer.length)))
 }
 
 fn read(answer: ffi::Read) -> Result<Read, RefusedRead> {
@@ -373,9 +382,7 @@ pub fn read_payload(
 /// assert_eq!(pick(&[0x04, 0x07, 0x00, 0x08], 1), Err(Refusal::Repeated));
 /// ```
 pub fn pick(s: &[u8], tag: u32) -> Result<Option<Value>, Refusal> {
-    let answer = unsafe { ffi::capgauze_pick(s.as_ptr(), s.len(), tag) };
-    accepted(answer.number)?;
-    Ok((answer.found != 0).then(|| value(answer.kind, answer.value, answer.length)))
+    picked(unsafe { ffi::capgauze_pick(s.as_ptr(), s.len(), tag) })
 }
 
 /// Reads the whole message: how many values a tag has, and the one at a number, counted from 0, or `None`. Refusals: TooLong,
@@ -405,6 +412,92 @@ pub fn pick_early(s: &[u8], tag: u32) -> Result<(usize, Option<Value>), Refusal>
     let answer = unsafe { ffi::capgauze_pick_early(s.as_ptr(), s.len(), tag) };
     accepted(answer.number)?;
     Ok((answer.keys as usize, (answer.found != 0).then(|| value(answer.kind, answer.value, answer.length))))
+}
+
+// ---- An index beside a stored message ----
+// Three words a tag ([`Entry`]); `tags` says how many entries are used, and the words behind them are not looked at.
+
+/// Makes the index of a message, three words a tag: how many tags it has. Half as many entries as the message has bytes
+/// always suffice. Refusals in order: TooLong; Truncated, InvalidVarint, TagOverflowed; NoRoom.
+///
+/// ```
+/// # use capgauze::{make_index, Entry, Refusal};
+/// let mut index = [77; 7];
+/// assert_eq!(make_index(&[0x04, 0x07, 0x00, 0x08, 0x08, 0x09], &mut index), Ok(2));
+/// assert_eq!(index, [1, 0, 2, 3, 4, 1, 77]);
+/// assert_eq!(Entry::at(&index, 1), Some(Entry { tag: 3, place: 4, count: 1 }));
+/// assert_eq!(make_index(&[0x04, 0x07, 0x04], &mut index), Err(Refusal::Truncated));
+/// ```
+pub fn make_index(s: &[u8], index: &mut [u64]) -> Result<usize, Refusal> {
+    let (to, words) = (index.as_mut_ptr(), index.len());
+    length(unsafe { ffi::capgauze_make_index(s.as_ptr(), s.len(), to, words) })
+}
+
+/// Whether the first `tags` entries are the index of the message: what [`make_index`] would make of it, no more and no
+/// less. A message that is refused has none.
+///
+/// ```
+/// # use capgauze::index_fits;
+/// assert!(index_fits(&[0x04, 0x07, 0x04, 0x08], &[1, 0, 1, 2, 2, 1], 2));
+/// assert!(!index_fits(&[0x04, 0x07, 0x04, 0x08], &[1, 0, 1, 2, 2, 1], 1));
+/// assert!(!index_fits(&[0x04, 0x07, 0x00, 0x08], &[1, 0, 1, 2, 2, 1], 2));
+/// ```
+pub fn index_fits(s: &[u8], index: &[u64], tags: usize) -> bool {
+    let (from, words) = (index.as_ptr(), index.len());
+    unsafe { ffi::capgauze_index_fits(s.as_ptr(), s.len(), from, words, tags) != 0 }
+}
+
+/// The only value of a tag through an index, or `None`: what [`pick`] answers, where the index was made from this message.
+/// Only the fields that the index counts of the tag are read, and the first one's own tag is not compared. Refusals in
+/// order: BadIndex for an index that may not be used; TooLong; Truncated, InvalidVarint, TagOverflowed as met, with BadIndex
+/// where the counted fields do not stand there; Repeated, where more than one is counted.
+///
+/// ```
+/// # use capgauze::{pick_indexed, Refusal, Value};
+/// let message = [0x04, 0x07, 0x00, 0x08, 0x08, 0x09];
+/// let index = [1, 0, 2, 3, 4, 1];
+/// assert_eq!(pick_indexed(&message, &index, 2, 3), Ok(Some(Value::Varint(9))));
+/// assert_eq!(pick_indexed(&message, &index, 2, 2), Ok(None));
+/// assert_eq!(pick_indexed(&message, &index, 2, 1), Err(Refusal::Repeated));
+/// assert_eq!(pick_indexed(&message[..4], &index, 2, 3), Err(Refusal::BadIndex));
+/// ```
+pub fn pick_indexed(
+    s: &[u8],
+    index: &[u64],
+    tags: usize,
+    tag: u32,
+) -> Result<Option<Value>, Refusal> {
+    let (from, words) = (index.as_ptr(), index.len());
+    picked(unsafe { ffi::capgauze_pick_indexed(s.as_ptr(), s.len(), from, words, tags, tag) })
+}
+
+/// Writes an index as a line of 2 + 16 · `tags` characters to the front of a buffer, without an end of line: its length.
+/// Refusals: BadIndex, also for a place or a count above 65,535; NoRoom.
+///
+/// ```
+/// # use capgauze::write_line;
+/// let mut line = [b'-'; 20];
+/// assert_eq!(write_line(&[10, 4, 1], 1, &mut line), Ok(18));
+/// assert_eq!(&line, b"010000000A00040001--");
+/// ```
+pub fn write_line(index: &[u64], tags: usize, line: &mut [u8]) -> Result<usize, Refusal> {
+    let (from, words) = (index.as_ptr(), index.len());
+    length(unsafe { ffi::capgauze_write_line(from, words, tags, line.as_mut_ptr(), line.len()) })
+}
+
+/// Reads a line as an index, three words a tag: how many tags it has. Refusals: BadIndex for a line that [`write_line`] does
+/// not write; NoRoom.
+///
+/// ```
+/// # use capgauze::{read_line, Refusal};
+/// let mut index = [0; 3];
+/// assert_eq!(read_line(b"010000000A00040001", &mut index), Ok(1));
+/// assert_eq!(index, [10, 4, 1]);
+/// assert_eq!(read_line(b"010000000a00040001", &mut index), Err(Refusal::BadIndex));
+/// ```
+pub fn read_line(line: &[u8], index: &mut [u64]) -> Result<usize, Refusal> {
+    let (to, words) = (index.as_mut_ptr(), index.len());
+    length(unsafe { ffi::capgauze_read_line(line.as_ptr(), line.len(), to, words) })
 }
 
 // ---- Soundings ----

@@ -118,6 +118,33 @@ impl From<Field> for Record {
     }
 }
 
+/// An entry of an index: a tag, the place of the first key of that tag, and how many fields the tag has. Any words are an
+/// entry; a good one has a tag up to 4,294,967,295, a place inside its message, and a count above 0.
+#[derive(Clone, Copy, Debug, Default, PartialEq, Eq, Hash)]
+pub struct Entry {
+    pub tag: u64,
+    pub place: u64,
+    pub count: u64,
+}
+
+/// The words of an index's entry.
+pub const INDEX_WORDS: usize = 3;
+
+impl Entry {
+    /// The entry at a number of an index, if the index has room for it.
+    ///
+    /// ```
+    /// # use capgauze::Entry;
+    /// let index = [3, 10, 2, 77];
+    /// assert_eq!(Entry::at(&index, 0), Some(Entry { tag: 3, place: 10, count: 2 }));
+    /// assert_eq!(Entry::at(&index, 1), None);
+    /// ```
+    pub fn at(index: &[u64], number: usize) -> Option<Entry> {
+        let words = index.chunks_exact(INDEX_WORDS).nth(number)?;
+        Some(Entry { tag: words[0], place: words[1], count: words[2] })
+    }
+}
+
 /// What a sounding says of itself: its station, its launch in seconds, and the number of its levels.
 #[derive(Clone, Copy, Debug, PartialEq, Eq, Hash)]
 pub struct Sounding {
@@ -157,7 +184,7 @@ pub enum Refusal {
     TagOverflowed = 3,
     /// Slice, or bytes to be written, above [`LIMIT`](crate::LIMIT).
     TooLong = 4,
-    /// A good message with more fields than the table has room, a buffer too short, a full table.
+    /// A good message with more fields or tags than there is room for, a buffer too short, a full table.
     NoRoom = 5,
     /// A record that is not good, or a count above the room.
     BadRecord = 6,
@@ -171,6 +198,8 @@ pub enum Refusal {
     OutOfRange = 10,
     /// A tag that stands more than once where one field of it is wanted.
     Repeated = 11,
+    /// An index or a line of one that may not be used, or that is seen not to be of the message.
+    BadIndex = 12,
     /// A sounding without station or launch, or a level without pressure.
     MissingField = 13,
 }

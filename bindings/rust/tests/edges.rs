@@ -29,6 +29,11 @@ fn empty_slices() {
     assert_eq!(pick(&[], 0), Ok(None));
     assert_eq!(pick_at(&[], 0, 0), Ok((0, None)));
     assert_eq!(pick_early(&[], 0), Ok((0, None)));
+    assert_eq!(make_index(&[], &mut []), Ok(0));
+    assert!(index_fits(&[], &[], 0));
+    assert_eq!(pick_indexed(&[], &[], 0, 0), Ok(None));
+    assert_eq!(write_line(&[], 0, &mut []), Err(Refusal::NoRoom));
+    assert_eq!(read_line(&[], &mut []), Err(Refusal::BadIndex));
     assert_eq!(fields(&[]).next(), None);
     assert_eq!(encode_varint(0, &mut []), Err(Refusal::NoRoom));
     assert_eq!(prepend_varint(0, &mut []), Err(Refusal::NoRoom));
@@ -187,4 +192,118 @@ fn the_limit() {
 
 fn refused_too_long() -> RefusedWrite {
     RefusedWrite { refusal: Refusal::TooLong, index: 0, length: 0 }
+}
+
+/// The index of MESSAGE, and a word behind it.
+const INDEX: [u64; 7] = [1, 0, 2, 2, 4, 1, 77];
+
+#[test]
+fn indexes_of_every_small_size() {
+    for words in 0..=7 {
+        let mut index = filled(77, words);
+        let answer = make_index(&MESSAGE, &mut index);
+        let room = words / INDEX_WORDS;
+        if room < 2 {
+            assert_eq!((answer, index), (Err(Refusal::NoRoom), filled(77, words)));
+        } else {
+            assert_eq!((answer, &index[..]), (Ok(2), &INDEX[..words]));
+        }
+        for tags in (0..=4).chain(HUGE) {
+            assert_eq!(index_fits(&MESSAGE, &INDEX[..words], tags), tags == 2 && room >= 2);
+            let looked = pick_indexed(&MESSAGE, &INDEX[..words], tags, 2);
+            let found = (tags == 2).then_some(Value::Varint(9));
+            assert_eq!(looked, if tags > room { Err(Refusal::BadIndex) } else { Ok(found) });
+            for line_len in [0, 1, 2, 3, 17, 18, 19, 33, 34, 35] {
+                let mut line = filled(b'-', line_len);
+                let answer = write_line(&INDEX[..words], tags, &mut line);
+                let length = 2 + 16 * tags.min(4);
+                let refused = if tags > room { Refusal::BadIndex } else { Refusal::NoRoom };
+                if tags > room || length > line_len {
+                    assert_eq!((answer, line), (Err(refused), filled(b'-', line_len)));
+                    continue;
+                }
+                assert_eq!(answer, Ok(length));
+                assert_eq!(line[..length], b"0100000001000000020000000200040001"[..length]);
+                assert_eq!(line[length..], filled(b'-', line_len - length));
+                let mut read = filled(77, words);
+                assert_eq!(read_line(&line[..length], &mut read), Ok(tags));
+                assert_eq!(read[..3 * tags], INDEX[..3 * tags]);
+                assert_eq!(read[3 * tags..], filled(77, words - 3 * tags));
+            }
+        }
+    }
+}
+
+#[test]
+fn an_index_with_a_word_off_does_not_fit() {
+    for word in 0..6 {
+        for other in [INDEX[word] + 1, INDEX[word].wrapping_sub(1), 1 << 32, u64::MAX] {
+            let mut index = INDEX;
+            index[word] = other;
+            assert!(!index_fits(&MESSAGE, &index, 2), "{index:?}");
+        }
+    }
+    assert!(!index_fits(&MESSAGE, &[1, 0, 2, 2, 4, 1, 3, 0, 1], 3));
+}
+
+#[test]
+fn lookups_through_an_index_of_another_message() {
+    use Refusal::*;
+    let looked = |s: &[u8], index: &[u64], tag| pick_indexed(s, index, index.len() / 3, tag);
+    let long = filled(0, LIMIT + 1);
+    assert_eq!(looked(&long, &[], 0), Err(TooLong));
+    assert_eq!(looked(&long, &[1, 0, 0], 0), Err(BadIndex));
+    // every entry is tested, also those not asked
+    let spoilt = [[1, 2, 1], [1, 0, 0], [0, 0, 1], [1 << 32, 0, 1]];
+    for entry in spoilt {
+        assert_eq!(looked(&[0, 0], &[&[0, 0, 1], &entry[..]].concat(), 0), Err(BadIndex));
+    }
+    assert_eq!(looked(&[0, 0], &[0, 0, 1, u32::MAX.into(), 0, 1], 0), Ok(Some(Value::Varint(0))));
+    // the message ends early; a later key of another tag; what stands there is what is answered
+    assert_eq!(looked(&[0, 0], &[0, 0, u64::MAX], 0), Err(BadIndex));
+    assert_eq!(looked(&[0, 0, 4, 0], &[0, 0, 2], 0), Err(BadIndex));
+    assert_eq!(looked(&[0, 0, 0, 0], &[0, 0, 2], 0), Err(Repeated));
+    let there = Value::LengthDelimited { start: 2, length: 0 };
+    assert_eq!(looked(&[5, 0], &[7, 0, 1], 7), Ok(Some(there)));
+    // keys that overflow: the first, a later one, and one behind the first key's tag
+    assert_eq!(looked(&[0x80, 0xFF, 0xFE, 0xFE, 0x3E, 0], &[7, 0, 1], 7), Err(TagOverflowed));
+    let later = [0, 0, 0x80, 0xFF, 0xFE, 0xFE, 0x3E, 0];
+    assert_eq!(looked(&later, &[0, 0, 2], 0), Err(TagOverflowed));
+    let behind = [0xFC, 0xFE, 0xFE, 0xFE, 0x3E, 0, 4, 0];
+    assert_eq!(looked(&behind, &[7, 0, 2], 7), Err(TagOverflowed));
+}
+
+#[test]
+fn lines_that_are_none() {
+    for line in [
+        "0", "02", "11", "1", "010", "01\n", "01 ", "010000000A0000000", "010000000A000000010",
+        "010000000a00000001", "010000000G00000001", "010000000:00000001", "010000000@00000001",
+        "010000000/00000001", "010000000A00000000", "010000000A000000010000000A00000001",
+        "010000000B000000010000000A00000001", "01é000000A0000001",
+    ] {
+        let mut index = filled(77, 9);
+        assert_eq!(read_line(line.as_bytes(), &mut index), Err(Refusal::BadIndex), "{line}");
+        assert_eq!(index, filled(77, 9));
+        assert_eq!(Index::from_line(line), Err(Refusal::BadIndex), "{line}");
+    }
+}
+
+#[test]
+fn an_index_that_owns_its_words() {
+    let index = Index::of(&MESSAGE).unwrap();
+    assert_eq!((index.words(), index.tags()), (&INDEX[..6], 2));
+    assert!(index.fits(&MESSAGE) && !index.fits(&MESSAGE[..4]) && !index.fits(&MESSAGE[..5]));
+    assert_eq!(index.pick(&MESSAGE, 1), Err(Refusal::Repeated));
+    assert_eq!(index.pick(&MESSAGE[..4], 2), Err(Refusal::BadIndex));
+    assert_eq!(Index::from_line(&index.to_line()), Ok(index));
+    assert_eq!(Index::of(&MESSAGE[..5]), Err(Refusal::Truncated));
+    assert_eq!(Index::of(&filled(0, LIMIT + 1)), Err(Refusal::TooLong));
+    assert_eq!(Index::of(&[]).unwrap().to_line(), "01");
+    // the most fields, and the most tags
+    let most = Index::of(&filled(0, LIMIT - 1)).unwrap();
+    assert_eq!(most.to_line(), "010000000000007FFF");
+    let tags = Index::of(&[4, 0].repeat(LIMIT / 2)).unwrap();
+    assert_eq!(tags.tags(), LIMIT / 2);
+    assert_eq!(tags.to_line().len(), 2 + 16 * (LIMIT / 2));
+    assert_eq!(Index::from_line(&tags.to_line()), Ok(tags));
 }

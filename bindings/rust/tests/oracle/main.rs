@@ -61,8 +61,12 @@ fn short_ones() {
                 for end in 0..=s.len() + 1 {
                     against.parts(s, at, end);
                     against.message(s, at, end, at + 4 * end);
+                    for tag in 0..2 {
+                        against.one_entry(s, [tag, at as u64, end as u64]);
+                    }
                 }
             }
+            against.index(s);
         }
         let longer = |s: &Vec<u8>| LETTERS.map(|letter| [&s[..], &[letter]].concat());
         slices = slices.iter().flat_map(longer).collect();
@@ -118,6 +122,8 @@ macro_rules! same {
         }
     }};
 }
+
+mod indexes;
 
 impl Against {
     fn new(seed: u64) -> Against {
@@ -262,6 +268,7 @@ impl Against {
     fn whole(&mut self, s: &[u8]) {
         let spare = self.chance.below(4);
         self.message(s, 0, s.len(), 4 * (s.len() / 2) + spare);
+        self.index(s);
         if s.len() > LIMIT {
             return;
         }

@@ -1,4 +1,5 @@
-//! The rules of docs/FORMAT.md for what the Rust has none: the refusals 4 to 8, what refusals carry, what stands in tables.
+//! The rules of docs/FORMAT.md for what the Rust has none: the refusals 4 to 8 and 12, what refusals carry, what stands in
+//! tables and indexes.
 use bilrost::{Blob, DecodeErrorKind};
 use capgauze::*;
 
@@ -81,4 +82,86 @@ pub fn tested(
 
 pub fn value(kind: u64, value: u64, length: u64) -> Value {
     Record { tag: 0, wire_type: kind, value, length }.field().unwrap().value
+}
+
+// ---- Indexes ----
+
+/// An entry's words: tag, place of its first key, number of its fields.
+pub type Words = [u64; 3];
+
+/// The index of a message: its tags and their numbers of fields from what `OpaqueMessage` holds of it, the places of their
+/// first keys from the Rust's reader, field by field; of a short message also from what the Rust writes of the fields before.
+pub fn expected_index(s: &[u8]) -> Result<Vec<Words>, Refusal> {
+    let read = || Blob::read(s, 0, s.len()).map_err(|(kind, _)| kind);
+    let (records, _) = limited(s, &[], read)?;
+    let (mut entries, mut at, mut last) = (Vec::<Words>::new(), 0, 0);
+    for (i, record) in records.iter().enumerate() {
+        match entries.last_mut() {
+            Some(entry) if entry[0] == record[0] => entry[2] += 1,
+            _ => {
+                assert!(i > 40 || Blob::write(s, &records[..i]).2 == at);
+                entries.push([record[0], at as u64, 1]);
+            }
+        }
+        let (stepped, next) = Blob::step(s, at, s.len(), last).unwrap().unwrap();
+        assert_eq!(stepped, *record);
+        (at, last) = (next, record[0] as u32);
+    }
+    Ok(entries)
+}
+
+/// The entries that are used, if they may be: each place below a bound, each count from 1 up to one.
+pub fn sound(index: &[u64], tags: usize, places: u64, counts: u64) -> Result<Vec<Words>, Refusal> {
+    let rows: Vec<Words> = index.chunks_exact(3).map(|row| row.try_into().unwrap()).collect();
+    let used = rows.get(..tags).ok_or(Refusal::BadIndex)?;
+    let good = |&[tag, place, count]: &Words| {
+        tag <= u32::MAX.into() && place < places && (1..=counts).contains(&count)
+    };
+    let rising = used.windows(2).all(|two| two[0][0] < two[1][0]);
+    (rising && used.iter().all(good)).then(|| used.to_vec()).ok_or(Refusal::BadIndex)
+}
+
+/// What a lookup through any index answers: the key and value readers are the Rust's.
+pub fn expected_lookup(
+    s: &[u8],
+    index: &[u64],
+    tags: usize,
+    tag: u32,
+) -> Result<Option<Value>, Refusal> {
+    let entries = sound(index, tags, s.len() as u64, u64::MAX)?;
+    limited(s, &[], || Ok(()))?;
+    let Some([_, place, count]) = entries.into_iter().find(|entry| entry[0] == tag.into()) else {
+        return Ok(None);
+    };
+    let end = s.len();
+    let (first, kind, at) = Blob::key(s, place as usize, end, 0).map_err(named)?;
+    let ([kind, number, length], mut at) = Blob::value(s, at, end, kind).map_err(named)?;
+    for _ in 1..count {
+        if at == end {
+            return Err(Refusal::BadIndex);
+        }
+        let (next, kind, behind) = Blob::key(s, at, end, first).map_err(named)?;
+        if next != first {
+            return Err(Refusal::BadIndex);
+        }
+        at = Blob::value(s, behind, end, kind).map_err(named)?.1;
+    }
+    if count > 1 { Err(Refusal::Repeated) } else { Ok(Some(value(kind, number, length))) }
+}
+
+pub fn line_of(entries: &[Words]) -> Vec<u8> {
+    let digits = |[tag, place, count]: &Words| format!("{tag:08X}{place:04X}{count:04X}");
+    ["01".to_string()].into_iter().chain(entries.iter().map(digits)).collect::<String>().into()
+}
+
+/// The entries of a line: those that are written as this very line, if there are such.
+pub fn expected_entries(line: &[u8]) -> Result<Vec<Words>, Refusal> {
+    let number = |digits: &[u8]| {
+        std::str::from_utf8(digits).ok().and_then(|text| u64::from_str_radix(text, 16).ok())
+    };
+    let entry = |row: &[u8]| Some([number(&row[..8])?, number(&row[8..12])?, number(&row[12..])?]);
+    let rows = line.get(2..).unwrap_or_default().chunks_exact(16);
+    let entries: Vec<Words> = rows.map(entry).collect::<Option<_>>().ok_or(Refusal::BadIndex)?;
+    let entries = sound(&entries.concat(), entries.len(), 1 << 16, u64::MAX)?;
+    (line_of(&entries) == line).then_some(entries).ok_or(Refusal::BadIndex)
 }
