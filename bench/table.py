@@ -2,10 +2,12 @@
 """table.py LOADS TIMES COUNTS: one table of what the driver and the counter wrote; either of the last two may be empty."""
 import sys
 
-KINDS = ["read", "write", "prepend", "measure", "sounding", "pick", "pick_at", "floor"]
+KINDS = ["read", "write", "prepend", "measure", "sounding", "pick", "pick_at", "indexed", "make_index", "floor"]
 OURS = "OURS"
 SAME = ["rust-same", "c-same:gcc", "c-same:clang"]  # the ratios that the goals are about
 PASS_ONE = "read", "OURS-pass-one"
+PICK = "indexed", "OURS-pick"  # of the same tag
+READ = "read", OURS
 
 
 def rows(path):
@@ -62,6 +64,10 @@ def main(loads, times, counts):
         part(f"{what}: our lookups over pass one",
              over(numbers, lambda key: numbers.get((*PASS_ONE, key[2]))), lambda _: 2,
              lambda kind, peer: ours(kind, peer) and kind.startswith("pick"))
+        for title, other, of in (("our lookup through an index over pick", PICK, "indexed"),
+                                 ("making an index over reading into a table", READ, "make_index")):
+            part(f"{what}: {title}", over(numbers, lambda key: numbers.get((*other, key[2]))), lambda _: 3,
+                 lambda kind, peer: ours(kind, peer) and kind == of)
     if best:
         part("layout: the worst layout's best over the best", over(worst, best.get), lambda _: 2)
         part("noise: median over best", over(median, best.get), lambda _: 2)

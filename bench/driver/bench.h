@@ -12,6 +12,7 @@ extern "C" {
 #define SLACK 64                  /* bytes that may be touched behind a load and a buffer, for peers that look ahead */
 #define MESSAGE_LIMIT 65535
 #define RECORD 4 /* words a record: tag, type, value or payload's start, length */
+#define ENTRY 3  /* words an index's entry: tag, place of its first key, number of its fields */
 #define LEVEL 5  /* words a level: pressure; temperature and depression, each 1 and the number, or 0 and all ones */
 #define LAUNCH_TAG 2
 #define LEVEL_TAG 3
@@ -28,6 +29,9 @@ typedef struct Load {
     size_t fields;     /* of the message */
     size_t all_fields; /* with those of its payloads, where deep */
     const uint64_t *records;
+    const uint64_t *index; /* its entries */
+    size_t tags;
+    uint32_t asked; /* the tag that is looked up through the index: the highest */
     int sounding; /* 1: what follows is said, and the jobs on soundings are run */
     uint64_t station, launch;
     size_t levels, number; /* number: of the level that pick_at looks up */
@@ -44,7 +48,8 @@ typedef struct Found {
 
 /* What a job may use, made before a clock runs. */
 typedef struct Work {
-    uint64_t *table; /* room for every field of the load, or every level; for a writer its records */
+    uint64_t *table; /* room for every field of the load, or every level, or every tag; for a writer its records, for a
+                        lookup through an index the index */
     size_t table_words;
     uint64_t *inner; /* a second table, for the payloads of a deep load */
     size_t inner_words;
@@ -53,10 +58,10 @@ typedef struct Work {
     const uint8_t *wrote; /* set by a writer: where its bytes lie */
     void *own;            /* what prepare returned */
     Sounding sounding;    /* set by a reader of soundings */
-    Found found;          /* set by a lookup */
+    Found found;          /* set by a lookup, and by a maker of an index: its tags are the count */
 } Work;
 
-typedef enum { READ, WRITE, PREPEND, MEASURE, SOUNDING, PICK, PICK_AT, FLOOR } Kind;
+typedef enum { READ, WRITE, PREPEND, MEASURE, SOUNDING, PICK, PICK_AT, INDEXED, MAKE_INDEX, FLOOR } Kind;
 
 typedef struct Job {
     Kind kind;

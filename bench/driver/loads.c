@@ -50,6 +50,8 @@ typedef struct {
     uint64_t *rec;
     size_t n, room, inner, levels;
     uint64_t *words; /* of the levels */
+    uint64_t *index;
+    size_t tags;
 } Msg;
 static void record(Msg *m, uint64_t type, uint64_t value, uint64_t len) {
     if (m->n == m->room) m->rec = realloc(m->rec, 8 * RECORD * (m->room = m->room ? 2 * m->room : 64));
@@ -59,6 +61,12 @@ static void record(Msg *m, uint64_t type, uint64_t value, uint64_t len) {
 static void key(Msg *m, uint32_t rise, unsigned type) {
     static const unsigned PB[4] = {0, 2, 5, 1};
     m->tag += rise;
+    if (rise || !m->tags) {
+        const uint64_t entry[ENTRY] = {m->tag, m->bil.n, 0};
+        m->index = realloc(m->index, 8 * ENTRY * (m->tags + 1));
+        memcpy(m->index + ENTRY * m->tags++, entry, sizeof entry);
+    }
+    m->index[ENTRY * m->tags - 1]++;
     put_bilrost(&m->bil, 4 * (uint64_t)rise + type);
     put_protobuf(&m->pb, 8 * (uint64_t)m->tag + PB[type]);
 }
@@ -101,7 +109,7 @@ static uint32_t rise(const Msg *m) { return m->n == 0 ? 1 : below(16) == 0; } /*
 
 #define STATION 11035
 #define LAUNCH 1763164800
-enum { PLAIN, GAPS, FIVE };
+enum { PLAIN, GAPS, FOUR, FIVE };
 /* What a sensor measured, below `most`; one in `odds` is missing: all ones, or with gaps no field at all. */
 static void measured(Msg *level, uint32_t tag, uint64_t odds, uint64_t most, int gaps, uint64_t *words) {
     uint64_t v = below(odds) == 0 ? UINT64_MAX : below(most);
@@ -119,11 +127,32 @@ static Msg sounding_of(size_t levels, int shape) {
         varint(&level, 1, words[0] = 101325 - 830 * (i % 120) - below(100));
         measured(&level, 2, gaps ? 6 : 20, 1200, gaps, words + 1);
         measured(&level, 3, gaps ? 4 : 8, 600, gaps, words + 3);
-        if (shape == FIVE) varint(&level, 1, below(2000)), varint(&level, 1, below(360));
+        if (shape >= FOUR) varint(&level, 1, below(2000));
+        if (shape == FIVE) varint(&level, 1, below(360));
         m.inner += level.n;
         payload(&m, i == 0, &level.bil, &level.pb);
     }
     return m;
+}
+/* Levels, and behind them the one field of the highest tag. */
+static Msg behind_levels(Msg m) {
+    varint(&m, 9, 300);
+    m.levels = 0;
+    return m;
+}
+static Msg behind_2000(void) { return behind_levels(sounding_of(2000, FOUR)); }
+static Msg behind_4000(void) { return behind_levels(sounding_of(4000, FOUR)); }
+/* Of levels with their pressure alone, twice as many are below the limit. */
+static Msg behind_8000(void) {
+    Msg m = {0};
+    varint(&m, 1, STATION);
+    varint(&m, 1, LAUNCH);
+    for (size_t i = 0; i < 8000; i++) {
+        Msg level = {0};
+        varint(&level, 1, 101325 - 830 * (i % 100) - below(100));
+        payload(&m, i == 0, &level.bil, &level.pb);
+    }
+    return behind_levels(m);
 }
 static Msg sounding(void) { return sounding_of(120, PLAIN); }
 static Msg with_gaps(void) { return sounding_of(120, GAPS); }
@@ -176,7 +205,8 @@ static Load load(const char *name, uint64_t seed, Msg make(void), int good, int 
     Msg m = make();
     Load l = {.name = name, .good = good, .deep = deep, .fields = m.n, .all_fields = m.n + (deep ? m.inner : 0),
               .sounding = m.levels > 0, .station = STATION, .launch = LAUNCH, .levels = m.levels, .number = 60,
-              .words = m.words, .records = m.rec, .len = m.bil.n - !good, .pb_len = m.pb.n - !good};
+              .words = m.words, .records = m.rec, .index = m.index, .tags = m.tags, .asked = m.tag,
+              .len = m.bil.n - !good, .pb_len = m.pb.n - !good};
     l.bytes = memcpy(calloc(1, l.len + SLACK), m.bil.p, l.len);
     l.pb = memcpy(calloc(1, l.pb_len + SLACK), m.pb.p, l.pb_len);
     return l;
@@ -188,6 +218,7 @@ size_t make_loads(Load *out) {
         load("VM", 3, mixed_varints, 1, 0),   load("P", 4, payloads, 1, 0),      load("F", 5, fixed_values, 1, 0),
         load("X", 6, all_types, 1, 0),        load("T", 7, tiny, 1, 0),          load("B", 3, mixed_varints, 0, 0),
         load("SL", 1, long_sounding, 1, 0),   load("SG", 8, with_gaps, 1, 0),    load("S5", 9, of_five_tags, 1, 0),
+        load("I2", 1, behind_2000, 1, 0),     load("I4", 1, behind_4000, 1, 0),  load("I8", 1, behind_8000, 1, 0),
     };
     memcpy(out, all, sizeof all);
     return sizeof all / sizeof *all;
@@ -224,6 +255,20 @@ static void damage(Bytes *b) {
     case 3: memset(b->p + at, 0xFF, b->n - at < 9 ? b->n - at : 9);
     }
 }
+/* An index that is mostly of the message, before that was damaged; the tag that is asked stands in it, most often. */
+static void doubtful_index(Load *l, Msg *m) {
+    uint64_t *word = m->tags ? m->index + below(ENTRY * m->tags) : 0;
+    if (word) switch (below(12)) {
+        case 0: *word += 1; break;
+        case 1: *word -= 1; break;
+        case 2: *word = below(l->len + 2); break;
+        case 3: *word = next() >> below(64); break;
+        case 4: m->index[1] = below(l->len + 1), m->index[2] = 1 + below(3); break;
+        }
+    l->index = m->index;
+    l->tags = m->tags - (m->tags && below(16) == 0);
+    l->asked = m->tags && below(8) ? m->index[ENTRY * below(m->tags)] : below(6);
+}
 /* A sounding of a few levels, most often something wrong in it, and room for `levels`. The first is longer than a message
  * may be. */
 Load broken_sounding(uint64_t seed) {
@@ -246,5 +291,6 @@ Load broken_sounding(uint64_t seed) {
     if (below(2)) damage(&m.bil);
     Load l = {.name = "a broken sounding", .len = m.bil.n, .levels = below(8), .number = below(4)};
     l.bytes = memcpy(calloc(1, l.len + SLACK), m.bil.p, l.len);
+    doubtful_index(&l, &m);
     return l;
 }

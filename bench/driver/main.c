@@ -12,7 +12,8 @@
 #define MAX_ROUNDS 400
 #define BROKEN 6000
 
-static const char *KIND[] = {"read", "write", "prepend", "measure", "sounding", "pick", "pick_at", "floor"};
+static const char *KIND[] = {"read", "write",   "prepend", "measure",    "sounding",
+                             "pick", "pick_at", "indexed", "make_index", "floor"};
 static Job jobs[MAX_JOBS];
 static size_t job_count;
 static Load loads[MAX_LOADS];
@@ -32,11 +33,16 @@ static void fail(const Job *j, const Load *l, const char *what, uint64_t got) {
 }
 static uint64_t poison(size_t i) { return 0xA5A5A5A5A5A5A5A5u + i; }
 
+static int on_sounding(const Job *j) { return j->kind == SOUNDING || j->kind == PICK || j->kind == PICK_AT; }
+static int on_index(const Job *j) { return j->kind == INDEXED || j->kind == MAKE_INDEX; }
+
 static void prepare(const Job *j, const Load *l, Work *w) {
-    w->table_words = j->kind == SOUNDING ? LEVEL * l->levels : RECORD * l->fields;
+    w->table_words = j->kind == SOUNDING ? LEVEL * l->levels : on_index(j) ? ENTRY * l->tags : RECORD * l->fields;
     w->table = malloc(8 * (w->table_words + 8));
     for (size_t i = 0; i < w->table_words + 8; i++) w->table[i] = poison(i);
-    if (l->records && j->kind != READ && j->kind != SOUNDING) memcpy(w->table, l->records, 8 * w->table_words);
+    if (l->records && j->kind != READ && j->kind != SOUNDING && !on_index(j))
+        memcpy(w->table, l->records, 8 * w->table_words);
+    if (j->kind == INDEXED) memcpy(w->table, l->index, 8 * w->table_words);
     w->inner_words = RECORD * 64;
     w->inner = malloc(8 * w->inner_words);
     w->out_len = j->pb ? l->pb_len : l->len;
@@ -66,14 +72,20 @@ static void check_sounding(const Job *j, const Load *l, const Work *w) {
     check_kept(j, l, w, w->table_words);
 }
 static void check_found(const Job *j, const Load *l, const Work *w) {
-    uint64_t tag = j->kind == PICK ? LAUNCH_TAG : LEVEL_TAG, number = j->kind == PICK ? 0 : l->number;
+    uint64_t tag = j->kind == PICK ? LAUNCH_TAG : j->kind == PICK_AT ? LEVEL_TAG : l->asked;
+    uint64_t number = j->kind == PICK_AT ? l->number : 0;
     Found want = {0};
     for (const uint64_t *row = l->records, *stop = row + RECORD * l->fields; row < stop; row += RECORD)
         if (row[0] == tag && want.count++ == number)
             want.found = 1, want.type = row[1], want.value = row[2], want.len = row[3];
+    if (j->kind == INDEXED && want.count > 1) want = (Found){.refusal = 11};
     if (memcmp(&w->found, &want, sizeof want)) fail(j, l, "wrong field, count or refusal", w->found.refusal);
 }
-static int on_sounding(const Job *j) { return j->kind == SOUNDING || j->kind == PICK || j->kind == PICK_AT; }
+static void check_index(const Job *j, const Load *l, const Work *w) {
+    if (w->found.refusal || w->found.count != l->tags) fail(j, l, "wrong tags or refusal", w->found.count);
+    if (memcmp(w->table, l->index, 8 * w->table_words)) fail(j, l, "wrong index", 0);
+    check_kept(j, l, w, w->table_words);
+}
 static void check(size_t a, size_t b) {
     const Job *j = &jobs[a];
     const Load *l = &loads[b];
@@ -85,24 +97,28 @@ static void check(size_t a, size_t b) {
     active[a][b] = 1;
     if (j->kind == READ) check_read(j, l, &works[a][b], got);
     else if (j->kind == SOUNDING) check_sounding(j, l, &works[a][b]);
-    else if (on_sounding(j)) check_found(j, l, &works[a][b]);
+    else if (j->kind == MAKE_INDEX) check_index(j, l, &works[a][b]);
+    else if (on_sounding(j) || j->kind == INDEXED) check_found(j, l, &works[a][b]);
     else if (j->kind != FLOOR) check_written(j, l, &works[a][b], got);
 }
 static void release(Work *w) { free(w->table), free(w->inner), free(w->out); }
-/* Peers that keep the rules, on a broken sounding: one refusal or one answer; the words behind it stay. */
-static void check_broken(uint64_t seed, uint64_t *met) {
+/* Peers that keep the rules, on a broken sounding and an index that may be another's: one refusal or one answer; the words
+ * behind it stay. */
+static void check_broken(uint64_t seed, uint64_t met[FLOOR][16]) {
     const Load l = broken_sounding(seed);
     Work first[FLOOR] = {{0}};
     for (const Job *j = jobs; j < jobs + job_count; j++) {
-        if (!on_sounding(j) || !j->keeps) continue;
+        if (!(on_sounding(j) || on_index(j)) || !j->keeps) continue;
         Work w = {0}, *other = &first[j->kind];
         prepare(j, &l, &w);
-        if (w.table_words) w.table_words -= seed % LEVEL;
+        size_t less = on_index(j) && seed % 4 ? 0 : seed % LEVEL;
+        if (w.table_words >= less) w.table_words -= less;
         j->run(&l, &w);
-        check_kept(j, &l, &w, LEVEL * w.sounding.levels);
+        size_t stored = j->kind == SOUNDING ? LEVEL * w.sounding.levels : j->kind == MAKE_INDEX ? ENTRY * w.found.count : 0;
+        if (j->kind != INDEXED) check_kept(j, &l, &w, stored);
         if (!other->table) {
             *other = w;
-            if (j->kind == SOUNDING) met[w.sounding.refusal % 16]++;
+            met[j->kind][(j->kind == SOUNDING ? w.sounding.refusal : w.found.refusal) % 16]++;
             continue;
         }
         if (memcmp(&w.sounding, &other->sounding, sizeof w.sounding) || memcmp(&w.found, &other->found, sizeof w.found))
@@ -112,16 +128,20 @@ static void check_broken(uint64_t seed, uint64_t *met) {
     }
     for (int k = 0; k < FLOOR; k++) release(&first[k]);
 }
-static void check_all_broken(void) {
-    static const int REFUSALS[] = {0, 1, 2, 3, 4, 5, 9, 10, 11, 13};
-    uint64_t met[16] = {0};
-    for (uint64_t seed = 0; seed < BROKEN; seed++) check_broken(seed, met);
-    fprintf(stderr, "bench: %d broken soundings are answered alike; by refusal (0: accepted)", BROKEN);
-    for (size_t i = 0; i < sizeof REFUSALS / sizeof *REFUSALS; i++) {
-        fprintf(stderr, " %d: %llu", REFUSALS[i], (unsigned long long)met[REFUSALS[i]]);
-        if (!met[REFUSALS[i]]) fprintf(stderr, ": none is refused so\n"), exit(1);
+static void check_met(const char *what, const uint64_t *met, const char *refusals) {
+    fprintf(stderr, "bench: %d broken %s are answered alike; by refusal (0: accepted)", BROKEN, what);
+    for (int i = 0; i < 16; i++) {
+        if (met[i]) fprintf(stderr, " %d: %llu", i, (unsigned long long)met[i]);
+        if (!met[i] != (refusals[i] == '.')) fprintf(stderr, " %d: against what is said here\n", i), exit(1);
     }
     fputc('\n', stderr);
+}
+static void check_all_broken(void) {
+    static uint64_t met[FLOOR][16];
+    for (uint64_t seed = 0; seed < BROKEN; seed++) check_broken(seed, met);
+    check_met("soundings", met[SOUNDING], "012345...9ab.d..");
+    check_met("indexes", met[INDEXED], "01234......bc...");
+    check_met("messages to be indexed", met[MAKE_INDEX], "012345..........");
 }
 
 /* ---- Counts and times ---- */

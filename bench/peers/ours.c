@@ -30,11 +30,11 @@ static uint64_t job_sounding(const Load *l, Work *w) {
     w->sounding = (Sounding){r.number, r.station, r.launch, r.levels};
     return r.number;
 }
-static uint64_t job_pick(const Load *l, Work *w) {
-    capgauze_picked r = capgauze_pick(l->bytes, l->len, LAUNCH_TAG);
+static uint64_t picked(Work *w, capgauze_picked r) {
     w->found = (Found){r.number, r.found, r.found, r.type, r.value, r.length};
     return r.number;
 }
+static uint64_t job_pick(const Load *l, Work *w) { return picked(w, capgauze_pick(l->bytes, l->len, LAUNCH_TAG)); }
 static uint64_t job_pick_early(const Load *l, Work *w) {
     capgauze_early r = capgauze_pick_early(l->bytes, l->len, LAUNCH_TAG);
     w->found = (Found){r.number, r.found, r.found, r.type, r.value, r.length};
@@ -43,6 +43,16 @@ static uint64_t job_pick_early(const Load *l, Work *w) {
 static uint64_t job_pick_at(const Load *l, Work *w) {
     capgauze_several r = capgauze_pick_at(l->bytes, l->len, LEVEL_TAG, l->number);
     w->found = (Found){r.number, r.count, r.found, r.type, r.value, r.length};
+    return r.number;
+}
+static uint64_t job_indexed(const Load *l, Work *w) {
+    return picked(w, capgauze_pick_indexed(l->bytes, l->len, w->table, w->table_words, l->tags, l->asked));
+}
+/* The same tag without the index. */
+static uint64_t job_unindexed(const Load *l, Work *w) { return picked(w, capgauze_pick(l->bytes, l->len, l->asked)); }
+static uint64_t job_make_index(const Load *l, Work *w) {
+    capgauze_number r = capgauze_make_index(l->bytes, l->len, w->table, w->table_words);
+    w->found = (Found){.refusal = r.number, .count = r.value};
     return r.number;
 }
 REGISTER(1, .kind = READ, .name = "OURS", .fills = 1, .keeps = 1, .run = job_read)
@@ -54,3 +64,6 @@ REGISTER(6, .kind = SOUNDING, .name = "OURS", .keeps = 1, .run = job_sounding)
 REGISTER(7, .kind = PICK, .name = "OURS", .keeps = 1, .run = job_pick)
 REGISTER(8, .kind = PICK, .name = "OURS-early", .run = job_pick_early)
 REGISTER(9, .kind = PICK_AT, .name = "OURS", .keeps = 1, .run = job_pick_at)
+REGISTER(10, .kind = INDEXED, .name = "OURS", .keeps = 1, .run = job_indexed)
+REGISTER(11, .kind = INDEXED, .name = "OURS-pick", .run = job_unindexed)
+REGISTER(12, .kind = MAKE_INDEX, .name = "OURS", .keeps = 1, .run = job_make_index)
