@@ -77,7 +77,8 @@ module _ {M : Type 1} (𝓤 : URA M) (H : Heap 𝓤) (A : Atoms 𝓤) (W : Given
   asked = qed W ((‵ (flft κ q) ⊛ ‵ ftrue) ∷ ‵ (owns (ShrSlice (named 0) κ u8 ∷ usize ∷ usize ∷ []) values passed) ∷ []) ∵ join ! $ frame ! $ done !
 
   -- the reader taken apart is what the callee asks, and the reader is kept
-  goes : Fitting d → ent 𝓤 (onEntry 𝓤 H A own.signature (κ, tt) (q, tt) (d, tt) (T′.lowered d ∷ [], tt)) (sep 𝓤 (Callee 𝓤 H A mem run .pre to) (sem 𝓤 H A (held κ d)))
+  goes : Fitting d → ent 𝓤 (onEntry 𝓤 H A own.signature (κ, tt) (q, tt) (d, tt) (T′.lowered d ∷ [], tt))
+      (sep 𝓤 (Callee 𝓤 H A mem run .pre to) (sem 𝓤 H A (held κ d)))
   goes f =
       qed W ((‵ (flft κ q) ⊛ ‵ ftrue) ∷ ‵ (owns (row (κ, tt) ∷ []) (d, tt) (T′.lowered d ∷ [], tt)) ∷ []) ∵
       move ! (1 ∷ []) $ fsplit ! $ move ! (1 ∷ []) $ drop ! $ use1 W (‵ (slice κ (d .message)) ⊛ ‵ (held κ d)) (apart κ 𝓤 H A W d) $ split ! $ nothing ! $
