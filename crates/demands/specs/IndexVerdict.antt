@@ -137,7 +137,9 @@ follow-told (suc n) s t p = go (ltb p (length s)) refl (λ i. follow-told n s t 
     go : (b : Bool) → ltb p (length s) ≡ b → ((i : ℕ) → followNumber (followFrom n s t i) ≡ firstOf (followRules n s t i))
         → followNumber (followFrom (suc n) s t p) ≡ firstOf (followRules (suc n) s t p)
     go false b ih = rw b
-    go true b ih = rw b (key-of (keyAt s (length s) p t) ih ∙ behind (keyRules s (length s) p t) (keyMore (keyAt s (length s) p t)) (key-told s (length s) p t) refl)
+    go true b ih =
+        let x = keyAt s (length s) p t in
+        rw b (key-of x ih ∙ behind (keyRules s (length s) p t) (keyMore x) (key-told s (length s) p t) refl)
 
 only-told : (t c : ℕ) (v : Value) (x : Followed) → pickedTold (onlyOne t c v x) .number
     ≡ orElse (followNumber x) (firstOf (when (not (eqb c 1)) Repeated ∷ []))

@@ -2,3 +2,4 @@ pub mod Made
 pub mod Groups
 pub mod GroupLaws
 pub mod Meaning
+pub mod Cases
