@@ -214,11 +214,12 @@ try_first_run() {
     is 'the second run: says nothing' '' "$(tr -d '\r' <"$room/said" | grep -a -v '^Script\|^$')"
 }
 
-# A long stream: the most memory that the program held must not grow with it, and no line is lost.
+# A long stream: the most memory that the program held must not grow with it, and no line is lost. The stream stays open for a second behind its last
+# line, so that the program is seen however fast it is.
 memory_of() { # MEGABYTES
     line=$(sed -n 1p "examples/soundings.hex")
     frames=$(($1 * 1000000 / (${#line} + 1)))
-    yes "$line" | head -n "$frames" | { "./$name" 2>"$room/err"; echo $? >"$room/status"; } | wc -l >"$room/lines" &
+    { yes "$line" | head -n "$frames"; sleep 1; } | { "./$name" 2>"$room/err"; echo $? >"$room/status"; } | wc -l >"$room/lines" &
     most=0
     while kill -0 $! 2>/dev/null; do
         now=$(ps -eo rss=,args= | awk -v p="$root/target/bin/$name" 'index($0, p " --status") { if ($1 > m) m = $1 } END { print m + 0 }')
