@@ -32,17 +32,17 @@ size s =
     ap length (message-last s (table s) 0)
     ∙ record-size s 0 (recordAt (table s) 0) (good-sound (length s) (recordAt (table s) 0) (le-leb (0 + length s) (length s) (omega arith)))
 
-pub longest : (s : List ℕ) → length s ≡ 65531 → measured (one s) ≡ At 0 65535
+pub longest : (s : List ℕ) → length s ≡ 1048571 → measured (one s) ≡ At 0 1048575
 unfolding encode
 longest s h =
-    let n : length (message s (table s) 1) ≡ 65535 = size s ∙ rw h in
+    let n : length (message s (table s) 1) ≡ 1048575 = size s ∙ rw h in
     measured-writes (plan-fine messageLimit s (table s) 1 (fine s (omega arith)) (omega (arith, n))) ∙ ap (At 0) n
 
 -- too long, and before no room
-pub too-long : (s : List ℕ) → length s ≡ 65532 → (one s ≡ Refuses TooLong 0) × (front [] (one s) ≡ record { answer = Refused TooLong 0 0; buf = [] })
+pub too-long : (s : List ℕ) → length s ≡ 1048572 → (one s ≡ Refuses TooLong 0) × (front [] (one s) ≡ record { answer = Refused TooLong 0 0; buf = [] })
 unfolding encode front
 too-long s h =
-    let n : length (message s (table s) 1) ≡ 65536 = size s ∙ rw h in
+    let n : length (message s (table s) 1) ≡ 1048576 = size s ∙ rw h in
     let p = plan-over messageLimit s (table s) 1 (fine s (omega arith)) (omega (arith, n)) in
     (p, into-refuses [] _ p)
 

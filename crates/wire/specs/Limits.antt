@@ -3,7 +3,7 @@ use Prim.Native.Nat.{ℕ}
 
 -- Rule R1, number 4: the longest slice that is read, and the longest message that is written
 abbrev pub messageLimit : ℕ
-messageLimit = 65535
+messageLimit = 1048575
 
 -- Rule T1: the words of a record in a table
 abbrev pub recordWords : ℕ

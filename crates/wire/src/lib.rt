@@ -4,7 +4,7 @@ ghost use mathlib.Core.Path.{_≡_};
 ghost use Rattle.wire.specs.Numbers.{numberOf};
 
 // The longest slice that is read, and the longest message that is written.
-pub const MESSAGE_LIMIT: usize = 65_535;
+pub const MESSAGE_LIMIT: usize = 1_048_575;
 
 // The words of a record in a table.
 pub const RECORD_WORDS: usize = 4;
