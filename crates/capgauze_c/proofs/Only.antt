@@ -165,5 +165,5 @@ pub write-line-one : One 2 write-line.ps write-line.r write-line-reads.Post {S =
 write-line-one κs a x y s t p q = p ∙ sym q
 
 pub read-line-one : One 2 read-line.ps read-line.r read-line-reads.Post {S = Lent told.Number}
-    (λ κs r s. record { told = asNumber r; lent = now (s .1 .0) })
+    (λ κs r s. record { told = asNumber r; lent = now (s .1 .1 .0) })
 read-line-one κs a x y s t p q = p ∙ sym q

@@ -14,7 +14,7 @@ ghost use Rattle.entry_field.specs.Fields.{decodeValue, skipField, stepEntry};
 ghost use Rattle.entry_varint.specs.Varints.{decodeVarint, decodeVarintCapped};
 ghost use Rattle.entry_answer.specs.Stores.{atFront, atEnd};
 ghost use Rattle.entry_message.specs.Messages.{readEntry, readPayload, pickEntry, severalEntry, earlyEntry};
-ghost use Rattle.index_line.specs.Line.{writeLine, readLine};
+ghost use Rattle.index_line.specs.Line.{writeLine, readEither};
 ghost use Rattle.index_make.specs.Made.{makeIndex, indexFits};
 ghost use Rattle.index_pick.specs.Looked.{pickIndexed};
 ghost use Rattle.sounding.specs.Told.{soundingTold};
@@ -369,17 +369,17 @@ pub extern "C" fn capgauze_pick_indexed(s: &[u8], index: &[u64], tags: usize, ta
 // An index as a line of characters.
 #[no_mangle]
 pub extern "C" fn capgauze_write_line(index: &[u64], tags: usize, line: &mut [u8]) -> Number
-    ensures { λ r. ⌜ record { told = asNumber r; lent = now (line .exit) } ≡ storedTold (writeLine 1 4 (now (index .entry)) tags (now (line .entry))) ⌝ }
+    ensures { λ r. ⌜ record { told = asNumber r; lent = now (line .exit) } ≡ storedTold (writeLine 2 6 (now (index .entry)) tags (now (line .entry))) ⌝ }
 {
     c_words::put_words(capgauze::write_line(index, tags, line))
 }
 
 // A line as an index.
 #[no_mangle]
-pub extern "C" fn capgauze_read_line(line: &[u8], index: &mut [u64]) -> Number
-    ensures { λ r. ⌜ record { told = asNumber r; lent = now (index .exit) } ≡ indexTold (readLine 1 4 (now (line .entry)) (now (index .entry))) ⌝ }
+pub extern "C" fn capgauze_read_line(line: &[u8], message_len: usize, index: &mut [u64]) -> Number
+    ensures { λ r. ⌜ record { told = asNumber r; lent = now (index .exit) } ≡ indexTold (readEither «message_len» (now (line .entry)) (now (index .entry))) ⌝ }
 {
-    c_words::indexed_words(capgauze::read_line(line, index))
+    c_words::indexed_words(capgauze::read_line(line, message_len, index))
 }
 
 // ---- soundings

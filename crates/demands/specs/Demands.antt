@@ -52,7 +52,7 @@ pub use Rattle.demands.specs.Early.{Promise, every-early}
 -- a lookup through the index that was made of a message is the full pick; what that index means; which index fits a message
 pub use Rattle.demands.specs.Indexing.{index-lookup, Means, index-meaning, fits-exactly, fits-made}
 -- a line of an index there and back; what was made of a message can always be written
-pub use Rattle.demands.specs.Lines.{line-again, line-read-back, made-is-written}
+pub use Rattle.demands.specs.Lines.{line-again, line-read-back, old-line-comes-back-new, made-is-written}
 -- ---- THE THIRD DEMAND: a message is refused exactly if no list of fields is written as it
 
 -- A message read whole, with a table of at least half as many records as it has bytes, is refused exactly if no list of fields in non-falling tag order is

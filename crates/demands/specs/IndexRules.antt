@@ -15,7 +15,7 @@ use Rattle.wire.specs.declared.ValueFound.the-variants as valueFound
 use Rattle.index.specs.Index.{Entry, room, entriesFrom, soundIndex}
 use Rattle.index_make.specs.Made.{indexOf}
 use Rattle.index_make.specs.Meaning.{Listed, unlisted, listed, entryOf}
-use Rattle.index_line.specs.Line.{headDigits, width, entriesOf, accepted}
+use Rattle.index_line.specs.Line.{headDigits, width, acceptedEither, entriesEither}
 use Rattle.demands.specs.Order.{Rule, when}
 use Rattle.demands.specs.Rules.{orderR, keyRules, valueRules, fieldRules, behindField, messageRules}
 
@@ -63,5 +63,5 @@ writeLineOrder w u n b =
     when (not (soundIndex u n (16 ^ w) (16 ^ w - 1))) BadIndex ∷ when (ltb (length b) (headDigits + width w * n)) NoRoom ∷ []
 
 -- Rule A9: 12 for a line that is not accepted, then 5
-abbrev pub readLineOrder : ℕ → ℕ → List ℕ → List ℕ → List Rule
-readLineOrder edition w l t = when (not (accepted edition w l)) BadIndex ∷ when (ltb (room t) (length (entriesOf w l))) NoRoom ∷ []
+abbrev pub readLineOrder : ℕ → List ℕ → List ℕ → List Rule
+readLineOrder m l t = when (not (acceptedEither m l)) BadIndex ∷ when (ltb (room t) (length (entriesEither l))) NoRoom ∷ []

@@ -34,7 +34,7 @@ use Rattle.index_make.specs.Meaning.{Listed, unlisted, listed, entryOf}
 use Rattle.index_pick.specs.declared.Followed.{Followed}
 use Rattle.index_pick.specs.declared.Followed.the-variants as followed
 use Rattle.index_pick.specs.Looked.{valued, keyed, followFrom, onlyOne, looked, lookAt, lookup, pickIndexed}
-use Rattle.index_line.specs.Line.{headDigits, width, lineOf, writeLine, entriesOf, accepted, readLine}
+use Rattle.index_line.specs.Line.{headDigits, width, lineOf, writeLine, acceptedEither, entriesEither, readEither}
 use Rattle.index_line.specs.Lines.{length-written}
 use Rattle.c_words.specs.Words.{Lent, asNumber, indexTold, storedTold}
 use Rattle.demands.specs.Calls.{Every}
@@ -201,13 +201,13 @@ write-line-order edition w u n b = go (soundIndex u n (16 ^ w) (16 ^ w - 1)) ref
         let h = leb-false (length (lineOf edition w (entriesFrom n u 0))) (length b) z in
         rw (x, z, lt-ltb (length b) (headDigits + width w * n) (omega (arith, l, h)))
 
-pub read-line-order : (edition w : ℕ) (l t : List ℕ) → outcomeNumber (readLine edition w l t) ≡ firstOf (readLineOrder edition w l t)
-unfolding readLine
-read-line-order edition w l t = go (accepted edition w l) refl
+pub read-line-order : (m : ℕ) (l t : List ℕ) → outcomeNumber (readEither m l t) ≡ firstOf (readLineOrder m l t)
+unfolding readEither
+read-line-order m l t = go (acceptedEither m l) refl
   where
-    go : (b : Bool) → accepted edition w l ≡ b → outcomeNumber (readLine edition w l t) ≡ firstOf (readLineOrder edition w l t)
+    go : (b : Bool) → acceptedEither m l ≡ b → outcomeNumber (readEither m l t) ≡ firstOf (readLineOrder m l t)
     go false b = rw b
-    go true b = rw b (landed-told t (entriesOf w l))
+    go true b = rw b (landed-told t (entriesEither l))
 
 -- ---- WHICH NUMBER IS TOLD
 
@@ -221,12 +221,12 @@ pick-indexed-number κs a x s p =
     by-order (λ y. pickedTold y .number) p (pick-indexed-order (now (a .0)) (now (a .1 .0)) (a .1 .1 .0) (a .1 .1 .1 .0))
 
 pub write-line-number : Numbered 2 write-line.ps write-line.r write-line-reads.Post (λ κs x. putTold x .number)
-    (λ κs a. writeLineOrder 4 (now (a .0)) (a .1 .0) (now (a .1 .1 .0)))
-write-line-number κs a x s p = by-order (λ (o : Stored). putTold (o .answer) .number) p (write-line-order 1 4 (now (a .0)) (a .1 .0) (now (a .1 .1 .0)))
+    (λ κs a. writeLineOrder 6 (now (a .0)) (a .1 .0) (now (a .1 .1 .0)))
+write-line-number κs a x s p = by-order (λ (o : Stored). putTold (o .answer) .number) p (write-line-order 2 6 (now (a .0)) (a .1 .0) (now (a .1 .1 .0)))
 
 pub read-line-number : Numbered 2 read-line.ps read-line.r read-line-reads.Post (λ κs x. indexedTold x .number)
-    (λ κs a. readLineOrder 1 4 (now (a .0)) (now (a .1 .0)))
-read-line-number κs a x s p = by-order outcomeNumber p (read-line-order 1 4 (now (a .0)) (now (a .1 .0)))
+    (λ κs a. readLineOrder (a .1 .0) (now (a .0)) (now (a .1 .1 .0)))
+read-line-number κs a x s p = by-order outcomeNumber p (read-line-order (a .1 .0) (now (a .0)) (now (a .1 .1 .0)))
 
 pub c-make-index-number : Numbered 2 c-make-index.ps c-make-index.r c-make-index-reads.Post (λ κs x. x .number)
     (λ κs a. makeIndexOrder (now (a .0)) (now (a .1 .0)))
@@ -237,12 +237,12 @@ pub c-pick-indexed-number : Numbered 2 c-pick-indexed.ps c-pick-indexed.r c-pick
 c-pick-indexed-number κs a x s p = by-order (λ w. w .number) p (pick-indexed-order (now (a .0)) (now (a .1 .0)) (a .1 .1 .0) (a .1 .1 .1 .0))
 
 pub c-write-line-number : Numbered 2 c-write-line.ps c-write-line.r c-write-line-reads.Post (λ κs x. x .number)
-    (λ κs a. writeLineOrder 4 (now (a .0)) (a .1 .0) (now (a .1 .1 .0)))
-c-write-line-number κs a x s p = by-order (λ (o : Lent told.Number). o .told .number) p (write-line-order 1 4 (now (a .0)) (a .1 .0) (now (a .1 .1 .0)))
+    (λ κs a. writeLineOrder 6 (now (a .0)) (a .1 .0) (now (a .1 .1 .0)))
+c-write-line-number κs a x s p = by-order (λ (o : Lent told.Number). o .told .number) p (write-line-order 2 6 (now (a .0)) (a .1 .0) (now (a .1 .1 .0)))
 
 pub c-read-line-number : Numbered 2 c-read-line.ps c-read-line.r c-read-line-reads.Post (λ κs x. x .number)
-    (λ κs a. readLineOrder 1 4 (now (a .0)) (now (a .1 .0)))
-c-read-line-number κs a x s p = by-order (λ (o : Lent told.Number). o .told .number) p (read-line-order 1 4 (now (a .0)) (now (a .1 .0)))
+    (λ κs a. readLineOrder (a .1 .0) (now (a .0)) (now (a .1 .1 .0)))
+c-read-line-number κs a x s p = by-order (λ (o : Lent told.Number). o .told .number) p (read-line-order (a .1 .0) (now (a .0)) (now (a .1 .1 .0)))
 
 -- ---- A REFUSAL LEAVES INDEX AND LINE; what is accepted leaves all behind the entries, or behind the line
 
@@ -270,12 +270,12 @@ made-in s t = go (gated (length s) 0 (length s))
     go Open = taken-in t (made s)
     go (Shut r) = kept _ _ _ t
 
-read-in : (edition w : ℕ) (l t : List ℕ) → InIndex t (indexTold (readLine edition w l t))
-unfolding readLine
-read-in edition w l t = go (accepted edition w l) refl
+read-in : (m : ℕ) (l t : List ℕ) → InIndex t (indexTold (readEither m l t))
+unfolding readEither
+read-in m l t = go (acceptedEither m l) refl
   where
-    go : (b : Bool) → accepted edition w l ≡ b → InIndex t (indexTold (readLine edition w l t))
-    go true b = rw b (landed-in t (entriesOf w l))
+    go : (b : Bool) → acceptedEither m l ≡ b → InIndex t (indexTold (readEither m l t))
+    go true b = rw b (landed-in t (entriesEither l))
     go false b = rw b (kept _ _ _ t)
 
 written-in : (edition w : ℕ) (u : List ℕ) (n : ℕ) (b : List ℕ) → AtFront b (storedTold (writeLine edition w u n b))
@@ -291,21 +291,21 @@ pub make-index-frame : Every 2 make-index.ps make-index.r make-index-reads.Post
 make-index-frame κs a x s p = subst (InIndex (now (a .1 .0))) (sym (ap indexTold p)) (made-in (now (a .0)) (now (a .1 .0)))
 
 pub read-line-frame : Every 2 read-line.ps read-line.r read-line-reads.Post
-    (λ κs a x s. InIndex (now (a .1 .0)) (record { told = indexedTold x; lent = now (s .1 .0) }))
-read-line-frame κs a x s p = subst (InIndex (now (a .1 .0))) (sym (ap indexTold p)) (read-in 1 4 (now (a .0)) (now (a .1 .0)))
+    (λ κs a x s. InIndex (now (a .1 .1 .0)) (record { told = indexedTold x; lent = now (s .1 .1 .0) }))
+read-line-frame κs a x s p = subst (InIndex (now (a .1 .1 .0))) (sym (ap indexTold p)) (read-in (a .1 .0) (now (a .0)) (now (a .1 .1 .0)))
 
 pub write-line-frame : Every 2 write-line.ps write-line.r write-line-reads.Post
     (λ κs a x s. AtFront (now (a .1 .1 .0)) (record { told = putTold x; lent = now (s .1 .1 .0) }))
-write-line-frame κs a x s p = subst (AtFront (now (a .1 .1 .0))) (sym (ap storedTold p)) (written-in 1 4 (now (a .0)) (a .1 .0) (now (a .1 .1 .0)))
+write-line-frame κs a x s p = subst (AtFront (now (a .1 .1 .0))) (sym (ap storedTold p)) (written-in 2 6 (now (a .0)) (a .1 .0) (now (a .1 .1 .0)))
 
 pub c-make-index-frame : Every 2 c-make-index.ps c-make-index.r c-make-index-reads.Post
     (λ κs a x s. InIndex (now (a .1 .0)) (record { told = asNumber x; lent = now (s .1 .0) }))
 c-make-index-frame κs a x s p = subst (InIndex (now (a .1 .0))) (sym p) (made-in (now (a .0)) (now (a .1 .0)))
 
 pub c-read-line-frame : Every 2 c-read-line.ps c-read-line.r c-read-line-reads.Post
-    (λ κs a x s. InIndex (now (a .1 .0)) (record { told = asNumber x; lent = now (s .1 .0) }))
-c-read-line-frame κs a x s p = subst (InIndex (now (a .1 .0))) (sym p) (read-in 1 4 (now (a .0)) (now (a .1 .0)))
+    (λ κs a x s. InIndex (now (a .1 .1 .0)) (record { told = asNumber x; lent = now (s .1 .1 .0) }))
+c-read-line-frame κs a x s p = subst (InIndex (now (a .1 .1 .0))) (sym p) (read-in (a .1 .0) (now (a .0)) (now (a .1 .1 .0)))
 
 pub c-write-line-frame : Every 2 c-write-line.ps c-write-line.r c-write-line-reads.Post
     (λ κs a x s. AtFront (now (a .1 .1 .0)) (record { told = asNumber x; lent = now (s .1 .1 .0) }))
-c-write-line-frame κs a x s p = subst (AtFront (now (a .1 .1 .0))) (sym p) (written-in 1 4 (now (a .0)) (a .1 .0) (now (a .1 .1 .0)))
+c-write-line-frame κs a x s p = subst (AtFront (now (a .1 .1 .0))) (sym p) (written-in 2 6 (now (a .0)) (a .1 .0) (now (a .1 .1 .0)))

@@ -1,12 +1,12 @@
 -- What is answered, by the tests in their order.
 use Prim.Native.Nat.{ℕ, _+_, _-_, _*_, _/_, _^_, _≤_, _<_}
-use mathlib.Core.Path.{_≡_, ap, _∙_, sym}
+use mathlib.Core.Path.{_≡_, refl, ap, _∙_, sym}
 use mathlib.Core.Bool.{Bool, true, false}
 use mathlib.Core.List.{List, _++_}
 use native.Mathlib.Omega.{arith}
 use native.Mathlib.Nat.{mul-comm, div-lt-iff-lt-mul, le-div-iff-mul-le}
 use borrow.Author.Tests.{leb-true}
-use lib.ListN.{length, drop}
+use lib.ListN.{length, drop, getD}
 use lib.Dec.{leb}
 use Rattle.wire.specs.declared.Refusal.the-variants.{NoRoom, BadIndex}
 use Rattle.place.specs.Place.{Placed, putAt, put-front}
@@ -19,8 +19,8 @@ use Rattle.index.specs.Index.{indexWords, room, indexed, entriesFrom, soundInde
 use Rattle.index_line.specs.Chars.{both}
 use Rattle.index_line.specs.Line.{headDigits, width, spelledAll, lineOf, soundEntries, writeLine, line-unsound, line-no-room, line-done}
 use Rattle.index_line.specs.Line.{tagsIn, entriesOf, spelledWell, accepted, accepted-not, accepted-as}
-use Rattle.index_line.specs.Line.{readLine, read-bad, read-no-room, read-done}
-use Rattle.index_line.specs.Spelling.{length-spelled-all, length-entries, well-length}
+use Rattle.index_line.specs.Line.{readLine, read-bad, read-no-room, read-done, oldLimit, readEither, either-new, either-old, either-late, either-none}
+use Rattle.index_line.specs.Spelling.{length-spelled-all, length-entries, well-length, well-short, well-second}
 use Rattle.index_line.specs.Lines.{length-written}
 
 -- ---- written
@@ -104,3 +104,29 @@ module _ (edition w : ℕ) (s t : List ℕ) {r : Bool} (e : r ≡ spelledWell ed
             ap (λ (y : List ℕ). outcome (indexedAs.Tags (tagsIn w s)) y) i
             ∙ ap (λ (y : ℕ). outcome (indexedAs.Tags y) (indexed t (entriesOf w s))) (sym tags)
             ∙ sym (read-done edition w s t (judged ∙ g) (omega (arith, tags)))
+
+-- ---- of either edition: the second character decides
+
+module _ (m : ℕ) (s t : List ℕ) where
+  not-new : (getD s 1 0 ≡ 50 → ⊥) → accepted 2 6 s ≡ false
+  not-new h = accepted-not 2 6 s (sym (well-second 2 6 s (omega arith) h))
+
+  not-old : (getD s 1 0 ≡ 49 → ⊥) → accepted 1 4 s ≡ false
+  not-old h = accepted-not 1 4 s (sym (well-second 1 4 s (omega arith) h))
+
+  pub either-short : length s < headDigits → outcome (indexedAs.Refused BadIndex) t ≡ readEither m s t
+  either-short h = sym (either-none m s t (accepted-not 2 6 s (sym (well-short 2 6 s h))) (accepted-not 1 4 s (sym (well-short 1 4 s h))))
+
+  pub either-second : getD s 1 0 ≡ 50 → readLine 2 6 s t ≡ readEither m s t
+  either-second h = go (accepted 2 6 s) refl
+    where
+      go : (a : Bool) → accepted 2 6 s ≡ a → readLine 2 6 s t ≡ readEither m s t
+      go true a = sym (either-new m s t a)
+      go false a = read-bad 2 6 s t a ∙ sym (either-none m s t a (not-old (λ e. omega (arith, h, e))))
+
+  module _ (h : getD s 1 0 ≡ 50 → ⊥) where
+    pub either-above : oldLimit < m → outcome (indexedAs.Refused BadIndex) t ≡ readEither m s t
+    either-above g = sym (either-late m s t (not-new h) g)
+
+    pub either-first : m ≤ oldLimit → readLine 1 4 s t ≡ readEither m s t
+    either-first g = sym (either-old m s t (not-new h) g)

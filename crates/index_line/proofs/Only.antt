@@ -12,5 +12,5 @@ use Rattle.index_line.proofs.read_line.Reads as read-line-reads
 pub write-line-one : One 2 write-line.ps write-line.r write-line-reads.Post {S = Stored} (λ κs r s. record { answer = r; buf = now (s .1 .1 .0) })
 write-line-one κs a x y s t p q = p ∙ sym q
 
-pub read-line-one : One 2 read-line.ps read-line.r read-line-reads.Post {S = Outcome} (λ κs r s. record { answer = r; index = now (s .1 .0) })
+pub read-line-one : One 2 read-line.ps read-line.r read-line-reads.Post {S = Outcome} (λ κs r s. record { answer = r; index = now (s .1 .1 .0) })
 read-line-one κs a x y s t p q = p ∙ sym q

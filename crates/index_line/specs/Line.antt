@@ -1,10 +1,10 @@
 -- An index as a line of characters: two digits for the edition, then for each entry its tag, its place and its count in digits.
--- Place and count have w digits each, by the edition.
+-- Place and count have w digits each: six in edition 02, which is written, and four in edition 01, which is read still.
 use Prim.Native.Nat.{ℕ, zero, suc, _+_, _-_, _*_, _/_, _^_, _≤_, _<_}
-use mathlib.Core.Path.{_≡_}
+use mathlib.Core.Path.{_≡_, refl, _∙_}
 use mathlib.Core.Bool.{Bool, true, false}
 use mathlib.Core.List.{List, [], _∷_, _++_}
-use borrow.Author.Tests.{le-leb, lt-leb}
+use borrow.Author.Tests.{le-leb, lt-leb, leb-true, leb-false}
 use lib.Dec.{eqb, leb}
 use lib.ListN.{length, take, drop}
 use Rattle.wire.specs.Choose.{choose}
@@ -104,8 +104,12 @@ unfoldable pub accepted : ℕ → ℕ → List ℕ → Bool
 accepted edition w s = choose (spelledWell edition w s) (soundEntries w (entriesOf w s)) false
 
 -- Rule A9: a line that is not accepted is BadIndex, then an index without room NoRoom; after a refusal all words stay
+abbrev pub settled : List ℕ → Bool → List Entry → Outcome
+settled t ok es = choose ok (landed t es) (outcome (indexedAs.Refused BadIndex) t)
+
+-- of one edition
 unfoldable pub readLine : ℕ → ℕ → List ℕ → List ℕ → Outcome
-readLine edition w s t = choose (accepted edition w s) (landed t (entriesOf w s)) (outcome (indexedAs.Refused BadIndex) t)
+readLine edition w s t = settled t (accepted edition w s) (entriesOf w s)
 
 module _ (edition w : ℕ) (s : List ℕ) where
   pub accepted-not : spelledWell edition w s ≡ false → accepted edition w s ≡ false
@@ -129,3 +133,40 @@ module _ (edition w : ℕ) (s t : List ℕ) where
     pub read-done : length (entriesOf w s) ≤ room t → readLine edition w s t ≡ outcome (indexedAs.Tags (length (entriesOf w s))) (indexed t (entriesOf w s))
     unfolding readLine
     read-done g = rw h (landed-fits t (entriesOf w s) g)
+
+-- ---- either edition (rule A9)
+
+-- the longest message that has lines of edition 01
+abbrev pub oldLimit : ℕ
+oldLimit = 65535
+
+-- Rule A9: edition 02, or edition 01 beside a message of m bytes that is not longer than that
+unfoldable pub acceptedEither : ℕ → List ℕ → Bool
+acceptedEither m s = choose (accepted 2 6 s) true (choose (leb m oldLimit) (accepted 1 4 s) false)
+
+unfoldable pub entriesEither : List ℕ → List Entry
+entriesEither s = choose (accepted 2 6 s) (entriesOf 6 s) (entriesOf 4 s)
+
+unfoldable pub readEither : ℕ → List ℕ → List ℕ → Outcome
+readEither m s t = settled t (acceptedEither m s) (entriesEither s)
+
+module _ (m : ℕ) (s t : List ℕ) where
+  pub either-new : accepted 2 6 s ≡ true → readEither m s t ≡ readLine 2 6 s t
+  unfolding readEither acceptedEither entriesEither readLine
+  either-new h = rw h
+
+  module _ (h : accepted 2 6 s ≡ false) where
+    pub either-old : m ≤ oldLimit → readEither m s t ≡ readLine 1 4 s t
+    unfolding readEither acceptedEither entriesEither readLine
+    either-old g = rw (h, le-leb m oldLimit g)
+
+    pub either-late : oldLimit < m → readEither m s t ≡ outcome (indexedAs.Refused BadIndex) t
+    unfolding readEither acceptedEither
+    either-late g = rw (h, lt-leb m oldLimit g)
+
+    pub either-none : accepted 1 4 s ≡ false → readEither m s t ≡ outcome (indexedAs.Refused BadIndex) t
+    either-none g = go (leb m oldLimit) refl
+      where
+        go : (b : Bool) → leb m oldLimit ≡ b → readEither m s t ≡ outcome (indexedAs.Refused BadIndex) t
+        go true b = either-old (leb-true m oldLimit b) ∙ read-bad 1 4 s t g
+        go false b = either-late (leb-false m oldLimit b)

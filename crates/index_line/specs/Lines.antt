@@ -4,21 +4,24 @@ use mathlib.Core.Path.{_≡_, refl, ap, _∙_, sym}
 use mathlib.Core.Bool.{Bool, true, false}
 use mathlib.Core.List.{List, [], _∷_, _++_}
 use native.Mathlib.Omega.{arith}
-use borrow.Author.Tests.{leb-true, leb-false, le-leb}
-use lib.Dec.{leb}
+use borrow.Author.Tests.{leb-true, leb-false, le-leb, lt-ltb, ltb-true}
+use lib.Dec.{leb, ltb}
 use lib.ListN.{length, take, drop, getD, length-append}
 use lib.Seq.{take-append-seam, getD-drop, drop-drop}
+use Rattle.wire.specs.Choose.{choose}
 use Rattle.wire.specs.declared.Refusal.{Refusal}
 use Rattle.wire.specs.declared.Refusal.the-variants.{NoRoom, BadIndex}
+use Rattle.text_digits.specs.Digits.{digits, glyph}
 use Rattle.entry_answer.specs.Stores.{Stored}
 use Rattle.entry_answer.specs.declared.Put.the-variants as put
 use Rattle.entry_answer.specs.declared.Indexed.the-variants as indexedAs
-use Rattle.index.specs.Index.{Entry, room, indexed, entriesFrom, length-from, entries-indexed, soundIndex, sound-indexed, Outcome, outcome}
+use Rattle.index.specs.Index.{Entry, room, indexed, entriesFrom, length-from, entries-indexed, Outcome, outcome}
+use Rattle.index.specs.Index.{soundEntry, soundFrom, soundIndex, sound-indexed}
 use Rattle.index_line.specs.Chars.{both}
 use Rattle.index_line.specs.Line.{headDigits, width, lineOf, soundEntries, writeLine, line-unsound, line-no-room, line-done}
 use Rattle.index_line.specs.Line.{entriesOf, spelledWell, accepted, accepted-as}
-use Rattle.index_line.specs.Line.{readLine, read-bad, read-no-room, read-done}
-use Rattle.index_line.specs.Spelling.{length-line, same-refl, well-line, entries-written}
+use Rattle.index_line.specs.Line.{readLine, read-bad, read-no-room, read-done, oldLimit, readEither, either-new, either-old, either-late}
+use Rattle.index_line.specs.Spelling.{length-line, same-refl, well-line, well-second, entries-written}
 
 -- how many characters the line of an index has
 pub length-written : (edition w : ℕ) (t : List ℕ) (n : ℕ) → length (lineOf edition w (entriesFrom n t 0)) ≡ headDigits + width w * n
@@ -128,3 +131,93 @@ line-there edition w u n b k c t h g =
 
 pub line-there-and-back : (edition w : ℕ) → Back edition w × There edition w
 line-there-and-back edition w = (line-back edition w, line-there edition w)
+
+-- ---- either edition
+
+-- what may be used with narrow bounds may be used with wider ones
+sound-wider : (places counts p c least : ℕ) (es : List Entry) → places ≤ p → counts ≤ c → soundFrom places counts least es ≡ true
+    → soundFrom p c least es ≡ true
+unfolding soundEntry
+sound-wider places counts p c least [] g h e = refl
+sound-wider places counts p c least (x ∷ es) g h e =
+    let a = leb least (x .tag) in
+    let b = ltb (x .tag) (2 ^ 32) in
+    let d = ltb (x .place) places in
+    let f = leb 1 (x .count) in
+    let k = leb (x .count) counts in
+    let o = both (soundEntry places counts least x) (soundFrom places counts (suc (x .tag)) es) e in
+    let q = both a (choose b (choose d (choose f k false) false) false) (o .0) in
+    let r = both b (choose d (choose f k false) false) (q .1) in
+    let u = both d (choose f k false) (r .1) in
+    let v = both f k (u .1) in
+    let y = lt-ltb (x .place) p (omega (arith, ltb-true (x .place) places (u .0))) in
+    let z = le-leb (x .count) c (omega (arith, leb-true (x .count) counts (v .1))) in
+    rw (q .0, r .0, y, v .0, z) (sound-wider places counts p c (suc (x .tag)) es g h (o .1))
+
+-- what an answer of either edition says: entries that may be written in edition 02 are in the index, and a line of edition 02 is theirs
+pub record Held (s t : List ℕ) (n : ℕ) (u : List ℕ) : Type 0 where
+  pub entries : List Entry
+  pub good : soundEntries 6 entries ≡ true
+  pub tags : n ≡ length entries
+  pub words : u ≡ indexed t entries
+  pub new : getD s 1 0 ≡ 50 → lineOf 2 6 entries ≡ s
+
+pub held : (m : ℕ) (s t : List ℕ) (n : ℕ) (u : List ℕ) → readEither m s t ≡ outcome (indexedAs.Tags n) u → Held s t n u
+unfolding accepted
+held m s t n u h = go (accepted 2 6 s) refl (leb m oldLimit) refl
+  where
+    go : (a : Bool) → accepted 2 6 s ≡ a → (b : Bool) → leb m oldLimit ≡ b → Held s t n u
+    go true a b c =
+        let k = took 2 6 s t n u (sym (either-new m s t a) ∙ h) in
+        let p = both (spelledWell 2 6 s) (soundEntries 6 (entriesOf 6 s)) (k .good) in
+        record { entries = entriesOf 6 s; good = p .1; tags = k .tags; words = k .words; new = λ e. well-line 2 6 s (p .0) }
+    go false a true b =
+        let k = took 1 4 s t n u (sym (either-old m s t a (leb-true m oldLimit b)) ∙ h) in
+        let p = both (spelledWell 1 4 s) (soundEntries 4 (entriesOf 4 s)) (k .good) in
+        record {
+          entries = entriesOf 4 s;
+          good = sound-wider (16 ^ 4) (16 ^ 4 - 1) (16 ^ 6) (16 ^ 6 - 1) 0 (entriesOf 4 s) (omega arith) (omega arith) (p .1);
+          tags = k .tags;
+          words = k .words;
+          new = λ e.
+              let f : false ≡ true = well-second 1 4 s (omega arith) (λ g. omega (arith, e, g)) ∙ p .0 in
+              let z : _≡_ {A = ℕ} 0 1 = cc in
+              absurd (omega arith);
+        }
+    go false a false b =
+        let f : indexedAs.Refused BadIndex ≡ indexedAs.Tags n = ap (λ (o : Outcome). o .answer) (sym (either-late m s t a (leb-false m oldLimit b)) ∙ h) in
+        let z : _≡_ {A = ℕ} 0 1 = cc in
+        absurd (omega arith)
+
+written-again : (t : List ℕ) (n : ℕ) (u b : List ℕ) (es : List Entry) → soundEntries 6 es ≡ true → n ≡ length es → u ≡ indexed t es
+    → (l : List ℕ) → lineOf 2 6 es ≡ l → length l ≤ length b → writeLine 2 6 u n b ≡ record { answer = put.Done (length l); buf = l ++ drop (length l) b }
+written-again t n u b es s e f l h g = rw (e, f) (write-entries 2 6 t es s b l h g)
+
+entries-again : (t : List ℕ) (n : ℕ) (u : List ℕ) (es : List Entry) → n ≡ length es → u ≡ indexed t es → es ≡ entriesFrom n u 0
+entries-again t n u es e f = rw (e, f) (sym (entries-indexed t es))
+
+-- a line of edition 02 that was read is written again as it was
+pub new-back : (m : ℕ) (s t : List ℕ) (n : ℕ) (u b : List ℕ) → readEither m s t ≡ outcome (indexedAs.Tags n) u → getD s 1 0 ≡ 50 → length s ≤ length b
+    → writeLine 2 6 u n b ≡ record { answer = put.Done (length s); buf = s ++ drop (length s) b }
+new-back m s t n u b h e g = let k = held m s t n u h in written-again t n u b (k .entries) (k .good) (k .tags) (k .words) s (k .new e) g
+
+-- a line of either edition comes back as the line of edition 02 of what was read
+pub either-back : (m : ℕ) (s t : List ℕ) (n : ℕ) (u b : List ℕ) → readEither m s t ≡ outcome (indexedAs.Tags n) u → headDigits + width 6 * n ≤ length b
+    → let l = lineOf 2 6 (entriesFrom n u 0) in writeLine 2 6 u n b ≡ record { answer = put.Done (length l); buf = l ++ drop (length l) b }
+either-back m s t n u b h g =
+    let k = held m s t n u h in
+    let l = lineOf 2 6 (entriesFrom n u 0) in
+    let i : lineOf 2 6 (k .entries) ≡ l = ap (lineOf 2 6) (entries-again t n u (k .entries) (k .tags) (k .words)) in
+    written-again t n u b (k .entries) (k .good) (k .tags) (k .words) l i (omega (arith, length-written 2 6 u n, g))
+
+-- which begins with 02
+pub head-new : (es : List Entry) (rest : List ℕ) → take headDigits (lineOf 2 6 es ++ rest) ≡ 48 ∷ 50 ∷ []
+unfolding digits glyph
+head-new es rest = refl
+
+-- a line that was written is read beside a message of any length
+pub either-there : (u : List ℕ) (n : ℕ) (b : List ℕ) (k : ℕ) (c : List ℕ) (m : ℕ) (t : List ℕ) → writeLine 2 6 u n b ≡ record { answer = put.Done k; buf = c }
+    → n ≤ room t → readEither m (take k c) t ≡ outcome (indexedAs.Tags n) (indexed t (entriesFrom n u 0))
+either-there u n b k c m t h g =
+    let r = line-there 2 6 u n b k c t h g in
+    either-new m (take k c) t (took 2 6 (take k c) t n (indexed t (entriesFrom n u 0)) r .good) ∙ r

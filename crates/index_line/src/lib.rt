@@ -1,12 +1,13 @@
 // An index as a line of characters, written and read: the edition, then for each entry its tag, its place and its count in hexadecimal digits.
-// Place and count have w digits each, four in edition 01.
+// Place and count have w digits each: six in edition 02, which is written, and four in edition 01, which is read still.
 ghost use mathlib.Core.Path.{_≡_};
 ghost use Prim.Native.Nat.{_+_, _*_, _^_, _-_, _≤_, _<_};
 ghost use lib.ListN.{length, drop};
 ghost use Rattle.place.specs.Place.{putAt};
 ghost use Rattle.text_digits.specs.Digits.{digitOf, worth};
 ghost use Rattle.index.specs.Index.{entry, indexWords, indexed, entriesFrom};
-ghost use Rattle.index_line.specs.Line.{headDigits, width, spelled, spelledAll, writeLine, numberAt, entriesIn, soundEntries, spelledWell, readLine};
+ghost use Rattle.index_line.specs.Line.{headDigits, width, spelled, spelledAll, writeLine};
+ghost use Rattle.index_line.specs.Line.{numberAt, entriesIn, soundEntries, spelledWell, readLine, readEither};
 ghost use Rattle.index_line.specs.Chars.{capital as Chars·capital, capitals as Chars·capitals};
 use entry_answer::Indexed;
 use entry_answer::Put;
@@ -18,6 +19,9 @@ const HEAD_DIGITS: usize = 2;
 
 // The digits of a tag.
 const TAG_DIGITS: usize = 8;
+
+// The longest message that has lines of edition 01.
+const OLD_LIMIT: usize = 65_535;
 
 // An entry's characters, which have room.
 fn put_entry(line: &mut [u8], at: usize, w: usize, tag: u64, place: u64, count: u64) -> usize
@@ -70,11 +74,11 @@ fn write_edition(
     Put::Done(put_entries(index, tags, w, line, at))
 }
 
-// Rule A8: an index as a line, at the front. BadIndex for one that may not be used, or a place or a count of more than four digits; then NoRoom.
+// Rule A8: an index as a line, at the front. BadIndex for one that may not be used, or a place or a count of more than six digits; then NoRoom.
 pub fn write_line(index: &[u64], tags: usize, line: &mut [u8]) -> Put
-    ensures { λ r. ⌜ record { answer = r; buf = now (line .exit) } ≡ writeLine 1 4 (now (index .entry)) tags (now (line .entry)) ⌝ }
+    ensures { λ r. ⌜ record { answer = r; buf = now (line .exit) } ≡ writeLine 2 6 (now (index .entry)) tags (now (line .entry)) ⌝ }
 {
-    write_edition(index, tags, 1, 4, 65_536, line)
+    write_edition(index, tags, 2, 6, 16_777_216, line)
 }
 
 // What a character is worth, 0 if it is no digit.
@@ -214,9 +218,18 @@ fn read_edition(line: &[u8], edition: u8, w: usize, index: &mut [u64]) -> Indexe
     Indexed::Tags(tags)
 }
 
-// Rule A9: a line as an index, at the front. BadIndex for a line that write_line does not write; then NoRoom.
-pub fn read_line(line: &[u8], index: &mut [u64]) -> Indexed
-    ensures { λ r. ⌜ record { answer = r; index = now (index .exit) } ≡ readLine 1 4 (now (line .entry)) (now (index .entry)) ⌝ }
+// Rule A9: a line as an index, at the front. BadIndex for a line of neither edition, and for one of edition 01 beside a longer message; then NoRoom.
+pub fn read_line(line: &[u8], message_len: usize, index: &mut [u64]) -> Indexed
+    ensures { λ r. ⌜ record { answer = r; index = now (index .exit) } ≡ readEither «message_len» (now (line .entry)) (now (index .entry)) ⌝ }
 {
+    if line.len() < HEAD_DIGITS {
+        return Indexed::Refused(Refusal::BadIndex);
+    }
+    if line[1] == b'2' {
+        return read_edition(line, 2, 6, index);
+    }
+    if OLD_LIMIT < message_len {
+        return Indexed::Refused(Refusal::BadIndex);
+    }
     read_edition(line, 1, 4, index)
 }
