@@ -6,7 +6,8 @@ use super::letter;
 use super::line;
 use super::line::Words;
 
-pub(crate) const BUFFER_ROOM: usize = 65_600;
+// The longest buffer that a varint or a key is put into.
+const PUT_ROOM: usize = 64;
 
 // A tag, or a last tag. The list has none of 2^32 or more.
 pub(crate) fn tag_of(w: u64) -> u32 {
@@ -104,8 +105,8 @@ fn put_into(letter: u8, words: &Words, buf: &mut [u8], ours: &mut Words) -> usiz
 
 pub(crate) fn ask_put(letter: u8, room: u64, words: &Words, ours: &mut Words) -> usize {
     let n = room as usize;
-    let mut buf = [FILL_BYTE; BUFFER_ROOM];
-    if BUFFER_ROOM < n {
+    let mut buf = [FILL_BYTE; PUT_ROOM];
+    if PUT_ROOM < n {
         return 0;
     }
     put_into(letter, words, &mut buf[0..n], ours)

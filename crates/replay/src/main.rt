@@ -23,9 +23,12 @@ use messages::ask_pick;
 use messages::ask_read;
 use messages::ask_write;
 
-const SOURCE_ROOM: usize = 65_536;
+const SOURCE_ROOM: usize = 1_048_576;
 
 const TABLE_ROOM: usize = 131_072;
+
+// The longest buffer that a message is written into.
+const BUFFER_ROOM: usize = 1_048_640;
 
 // The line that is being read, what the lines so far have set, and the counts.
 struct State {
@@ -152,7 +155,14 @@ fn table_for(letter: u8, words: &Words, now: usize) -> usize {
     }
 }
 
-fn answer(letter: u8, s: &[u8], table: &mut [u64], words: &Words, ours: &mut Words) -> usize {
+fn answer(
+    letter: u8,
+    s: &[u8],
+    table: &mut [u64],
+    buf: &mut [u8],
+    words: &Words,
+    ours: &mut Words,
+) -> usize {
     match letter {
         letter::DECODE_VARINT | letter::DECODE_VARINT_CAPPED => ask_varint(letter, s, words, ours),
         letter::ENCODED_LEN_VARINT | letter::TO_UNSIGNED | letter::TO_SIGNED | letter::KEY_LEN =>
@@ -172,7 +182,7 @@ fn answer(letter: u8, s: &[u8], table: &mut [u64], words: &Words, ours: &mut Wor
         | letter::PREPEND_MESSAGE
         | letter::ENCODE_MESSAGE_SUM
         | letter::PREPEND_MESSAGE_SUM
-        | letter::ENCODED_LEN_MESSAGE => ask_write(letter, s, table, words, ours),
+        | letter::ENCODED_LEN_MESSAGE => ask_write(letter, s, table, words, buf, ours),
         letter::INSERT => ask_insert(s, table, words, ours),
         letter::PAYLOAD_OF => ask_payload(s, words, ours),
         _ => ask_pick(s, words, ours),
@@ -235,6 +245,7 @@ fn ask_case(
     words: &Words,
     source: &[u8],
     table: &mut [u64],
+    buf: &mut [u8],
     st: State,
 ) -> State {
     let mut ours: Words = [0; WORDS];
@@ -250,7 +261,14 @@ fn ask_case(
     if table.len() < t {
         return not_a_line(text, st);
     }
-    let n = answer(letter, &source[0..s], &mut table[0..t], words, &mut ours);
+    let n = answer(
+        letter,
+        &source[0..s],
+        &mut table[0..t],
+        buf,
+        words,
+        &mut ours,
+    );
     let end = c.words;
     let next = st.with_table(t);
     if same(words, c.asked, end, &ours, n) {
@@ -260,22 +278,35 @@ fn ask_case(
     next.wrong()
 }
 
-fn take_line(text: &[u8], source: &mut [u8], table: &mut [u64], st: State) -> State {
+fn take_line(
+    text: &[u8],
+    source: &mut [u8],
+    table: &mut [u64],
+    buf: &mut [u8],
+    st: State,
+) -> State {
     let mut words: Words = [0; WORDS];
     match line::form_of(text, &mut words) {
         Form::Title => st,
         Form::Sets(letter, n) => set_lent(text, letter, n, &words, source, table, st),
-        Form::Asks(c) => ask_case(text, c, &words, source, table, st),
+        Form::Asks(c) => ask_case(text, c, &words, source, table, buf, st),
         Form::Bad => not_a_line(text, st),
     }
 }
 
 // One character of the list: kept, or at a line's end the line is taken. A line that is too long is in no list.
-fn feed(line: &mut [u8], source: &mut [u8], table: &mut [u64], st: State, c: u8) -> State {
+fn feed(
+    line: &mut [u8],
+    source: &mut [u8],
+    table: &mut [u64],
+    buf: &mut [u8],
+    st: State,
+    c: u8,
+) -> State {
     let n = st.chars;
     if c == b'\n' {
         if n <= line.len() {
-            return take_line(&line[0..n], source, table, st).next_line();
+            return take_line(&line[0..n], source, table, buf, st).next_line();
         }
         return not_a_line(b"a line that is too long", st).next_line();
     }
@@ -291,12 +322,13 @@ fn feed_all(
     line: &mut [u8],
     source: &mut [u8],
     table: &mut [u64],
+    buf: &mut [u8],
     st: State,
 ) -> State {
     let mut now = st;
     let mut i = 0;
     while i < block.len() {
-        now = feed(line, source, table, now, block[i]);
+        now = feed(line, source, table, buf, now, block[i]);
         i += 1;
     }
     now
@@ -306,6 +338,7 @@ fn replay(fd: i32) -> State {
     let mut line = [0u8; 4096];
     let mut source = [0u8; SOURCE_ROOM];
     let mut table = [0u64; TABLE_ROOM];
+    let mut buf = [0u8; BUFFER_ROOM];
     let mut block = [0u8; 4096];
     let mut st = State::start();
     let mut turns = u64::MAX;
@@ -316,7 +349,14 @@ fn replay(fd: i32) -> State {
         if n == 0 {
             break;
         }
-        st = feed_all(&block[0..n], &mut line, &mut source, &mut table, st);
+        st = feed_all(
+            &block[0..n],
+            &mut line,
+            &mut source,
+            &mut table,
+            &mut buf,
+            st,
+        );
     }
     st
 }

@@ -1,5 +1,4 @@
 // The entries on messages and on tables.
-use super::fields::BUFFER_ROOM;
 use super::fields::tag_of;
 use super::lent;
 use super::lent::FILL_BYTE;
@@ -39,6 +38,14 @@ fn blank(table: &mut [u64]) {
     let mut i = 0;
     while i < table.len() {
         table[i] = FILL_WORD;
+        i += 1;
+    }
+}
+
+fn blank_bytes(buf: &mut [u8]) {
+    let mut i = 0;
+    while i < buf.len() {
+        buf[i] = FILL_BYTE;
         i += 1;
     }
 }
@@ -198,6 +205,7 @@ pub(crate) fn ask_write(
     s: &[u8],
     table: &[u64],
     words: &Words,
+    buf: &mut [u8],
     ours: &mut Words,
 ) -> usize {
     let count = words[0] as usize;
@@ -206,10 +214,10 @@ pub(crate) fn ask_write(
         let r = capgauze_c::capgauze_encoded_len_message(s, table, count);
         return lent::three(ours, r.number, r.start, r.length);
     }
-    let mut buf = [FILL_BYTE; BUFFER_ROOM];
-    if BUFFER_ROOM < n {
+    if buf.len() < n {
         return 0;
     }
+    blank_bytes(&mut buf[0..n]);
     write_into(letter, s, table, count, &mut buf[0..n], ours)
 }
 

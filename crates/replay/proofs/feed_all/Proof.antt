@@ -6,11 +6,11 @@ use Rattle.replay.proofs.feed_all.Statement.{statement}
 use Rattle.replay.proofs.feed_all.Tie as tie
 
 abbrev Inv-loop : tie.InvT-loop
-Inv-loop block line₀ source₀ table₀ now₀ i₀ line source table now i =
-    (length line ≡ length line₀) × (length source ≡ length source₀) × (length table ≡ length table₀)
+Inv-loop block line₀ source₀ table₀ buf₀ now₀ i₀ line source table buf now i =
+    (length line ≡ length line₀) × (length source ≡ length source₀) × (length table ≡ length table₀) × (length buf ≡ length buf₀)
 
 abbrev μ-loop : tie.MeasureT-loop
-μ-loop block line₀ source₀ table₀ now₀ i₀ line source table now i = length block - i
+μ-loop block line₀ source₀ table₀ buf₀ now₀ i₀ line source table buf now i = length block - i
 
 loop-holds : tie.Need-loop-holds Inv-loop μ-loop
 loop-holds c = search needs
@@ -39,6 +39,9 @@ same-length-2 c = search needs
 same-length-3 : tie.Need-same-length-3 Inv-loop μ-loop
 same-length-3 c = search needs
 
+same-length-4 : tie.Need-same-length-4 Inv-loop μ-loop
+same-length-4 c = search needs
+
 returns : tie.Need-returns Inv-loop μ-loop
 returns c = search needs
 
@@ -57,4 +60,5 @@ feed-all-spec =
     same-length
     same-length-2
     same-length-3
+    same-length-4
     returns)

@@ -1,21 +1,28 @@
 use borrow.Author.Needs.{needs}
+use Prim.Native.Nat.{ℕ}
 use mathlib.Core.Path.{_≡_}
-use lib.ListN.{length}
+use lib.ListN.{length, length-replicate}
 use Rattle.replay.proofs.replay.Statement.{statement}
 use Rattle.replay.proofs.replay.Tie as tie
 
 abbrev Inv-loop : tie.InvT-loop
-Inv-loop fd line₀ source₀ table₀ block₀ st₀ turns₀ line source table block st turns =
-    (length line ≡ 4096) × (length source ≡ 65536) × (length table ≡ 131072) × (length block ≡ 4096)
+Inv-loop fd line₀ source₀ table₀ buf₀ block₀ st₀ turns₀ line source table buf block st turns =
+    (length line ≡ 4096) × (length source ≡ 1048576) × (length table ≡ 131072) × (length buf ≡ 1048640) × (length block ≡ 4096)
 
 abbrev μ-loop : tie.MeasureT-loop
-μ-loop fd line₀ source₀ table₀ block₀ st₀ turns₀ line source table block st turns = turns
+μ-loop fd line₀ source₀ table₀ buf₀ block₀ st₀ turns₀ line source table buf block st turns = turns
 
 start-requires : tie.Need-start-requires Inv-loop μ-loop
 start-requires c κs = search needs
 
 loop-holds : tie.Need-loop-holds Inv-loop μ-loop
-loop-holds c = search needs
+loop-holds c = (
+  length-replicate {A = ℕ} 4096 0,
+  length-replicate {A = ℕ} 1048576 0,
+  length-replicate {A = ℕ} 131072 0,
+  length-replicate {A = ℕ} 1048640 0,
+  length-replicate {A = ℕ} 4096 0,
+)
 
 sub-turns : tie.Need-sub-turns Inv-loop μ-loop
 sub-turns c = search needs
@@ -49,6 +56,9 @@ slice-aggregate-feed-all-2 c = search needs
 
 slice-aggregate-feed-all-3 : tie.Need-slice-aggregate-feed-all-3 Inv-loop μ-loop
 slice-aggregate-feed-all-3 c = search needs
+
+slice-aggregate-feed-all-4 : tie.Need-slice-aggregate-feed-all-4 Inv-loop μ-loop
+slice-aggregate-feed-all-4 c = search needs
 
 feed-all-requires : tie.Need-feed-all-requires Inv-loop μ-loop
 feed-all-requires c κs = search needs
@@ -84,6 +94,7 @@ replay-spec =
     slice-aggregate-feed-all
     slice-aggregate-feed-all-2
     slice-aggregate-feed-all-3
+    slice-aggregate-feed-all-4
     feed-all-requires
     loop-less
     loop-again
