@@ -22,7 +22,7 @@ extern "C" {
 #endif
 
 /* The longest slice that is read, and the longest message that is written. */
-#define CAPGAUZE_LIMIT 65535
+#define CAPGAUZE_LIMIT 1048575
 /* The words of a record; a table of `words` words has room for words / CAPGAUZE_RECORD_WORDS records. */
 #define CAPGAUZE_RECORD_WORDS 4
 /* The words of an index's entry; an index of `words` words has room for words / CAPGAUZE_INDEX_WORDS tags. */
@@ -169,18 +169,21 @@ uint64_t capgauze_index_fits(const uint8_t *s, size_t s_len, const uint64_t *ind
 capgauze_picked capgauze_pick_indexed(const uint8_t *s, size_t s_len, const uint64_t *index, size_t words, size_t tags,
                                       uint32_t tag);
 
-/* An index as a line of characters: `01`, then for each tag 16 hexadecimal digits, capitals: eight of the tag, four of
- * the place, four of the count. Value is the line's length, 2 + 16 * tags; it goes to the front of `line` without an end of
+/* An index as a line of characters: `02`, then for each tag 20 hexadecimal digits, capitals: eight of the tag, six of
+ * the place, six of the count. Value is the line's length, 2 + 20 * tags; it goes to the front of `line` without an end of
  * line, all other bytes stay. Refusals in order: BadIndex for more tags than there is room for, a tag above 4,294,967,295,
- * tags that do not rise, a place above 65,535, a count of 0 or above 65,535; NoRoom. Refused: value 0, and `line` stays as
- * it was. An index that make_index made is never refused as BadIndex. */
+ * tags that do not rise, a place above 16,777,215, a count of 0 or above 16,777,215; NoRoom. Refused: value 0, and `line`
+ * stays as it was. An index that make_index made is never refused as BadIndex. */
 capgauze_number capgauze_write_line(const uint64_t *index, size_t words, size_t tags, uint8_t *line, size_t line_len);
 
-/* A line as an index: value is the number of its tags, (line_len - 2) / 16, whose words go to the front of `index`; the
- * words behind them stay. The line may have any length. Refusals in order: BadIndex for a line that write_line does not
- * write: another edition, no whole entries, a character that is not 0 to 9 or A to F, tags that do not rise, a count of 0;
- * NoRoom. No message is at hand, so a place may be any number. Refused: value 0, and `index` stays as it was. */
-capgauze_number capgauze_read_line(const uint8_t *line, size_t line_len, uint64_t *index, size_t words);
+/* A line as an index: value is the number of its tags, whose words go to the front of `index`; the words behind them stay.
+ * Edition 02 is read, which write_line writes, and edition 01: `01`, then 16 digits a tag, eight, four and four. The
+ * message that the line stands beside has message_len bytes; beside one of more than 65,535 an edition 01 is refused, and
+ * message_len does nothing else: a place may be any number. The line may have any length. Refusals in order: BadIndex for
+ * no such line: another edition, an edition 01 beside a longer message, no whole entries, a character that is not 0 to 9 or
+ * A to F, tags that do not rise, a count of 0; NoRoom. Refused: value 0, and `index` stays as it was. */
+capgauze_number capgauze_read_line(const uint8_t *line, size_t line_len, size_t message_len, uint64_t *index,
+                                   size_t words);
 
 /* ---- Soundings ---- */
 

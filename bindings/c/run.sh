@@ -7,5 +7,5 @@ root=$here/../..
 archive
 mkdir -p "$here/target"
 $CXX -Wall -Wextra -Werror -fsyntax-only -x c++ "$here/capgauze.h"
-$CC -std=c11 -D_GNU_SOURCE -O1 -Wall -Wextra -Werror -I"$here" "$here/test.c" "$CAPGAUZE_ARCHIVE" -o "$here/target/test"
+$CC -std=c11 -D_GNU_SOURCE -O1 -Wall -Wextra -Werror -I"$here" "$here/test.c" "$CAPGAUZE_ARCHIVE" -lpthread -o "$here/target/test"
 $RUN "$here/target/test"

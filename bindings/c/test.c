@@ -1,6 +1,8 @@
 /* Calls every entry through the header, most with the cases of docs/FORMAT.md. Whatever is lent ends at the edge of a page
  * that may not be touched. run.sh compiles it and runs it. */
 #include "capgauze.h"
+#include <limits.h>
+#include <pthread.h>
 #include <stdio.h>
 #include <stdlib.h>
 #include <string.h>
@@ -234,7 +236,7 @@ static void indexes(void) {
     bytes = lend(len);
     lay(3, 0);
     SAME(capgauze_make_index(S, TABLE), 0, 1);
-    TABLE_IS(0, 0, 32767);
+    TABLE_IS(0, 0, 524287);
     SAME(FITS(1), 1);
     SAME(PICK(1, 0), 11, 0, 0, 0, 0);
 
@@ -330,39 +332,45 @@ static void line_is(int line, const char *want, size_t size) {
 
 static void lines(void) {
     INDEX(1, 0, 1, 3, 10, 2, 77);
-    room(35);
-    SAME(capgauze_write_line(TABLE, 2, BUF), 0, 34);
-    LINE_IS("01000000010000000100000003000A0002\xA5");
-    text(34, (const char *)buf);
+    room(43);
+    SAME(capgauze_write_line(TABLE, 2, BUF), 0, 42);
+    LINE_IS("0200000001000000000001" "0000000300000A000002\xA5");
+    text(42, (const char *)buf);
     lay(7, 0);
-    SAME(capgauze_read_line(S, TABLE), 0, 2);
+    SAME(capgauze_read_line(S, SIZE_MAX, TABLE), 0, 2);
     TABLE_IS(1, 0, 1, 3, 10, 2, 77);
     lay(5, 0);
-    SAME(capgauze_read_line(S, TABLE), 5, 0);
+    SAME(capgauze_read_line(S, 0, TABLE), 5, 0);
     TABLE_IS(77, 77, 77, 77, 77);
     /* no tags */
     room(2);
     SAME(capgauze_write_line(TABLE, 0, BUF), 0, 2);
-    BUF_IS("3031");
+    BUF_IS("3032");
     room(1);
     SAME(capgauze_write_line(TABLE, 0, BUF), 5, 0);
     SAME(capgauze_write_line(TABLE, 2, BUF), 12, 0); /* before NoRoom */
     BUF_IS("A5");
     lay(0, 0);
-    LINE("01");
-    SAME(capgauze_read_line(S, TABLE), 0, 0);
+    LINE("02");
+    SAME(capgauze_read_line(S, 0, TABLE), 0, 0);
+    SAME(capgauze_read_line(S, 65536, TABLE), 0, 0);
+    SAME(capgauze_read_line(S, SIZE_MAX, TABLE), 0, 0);
     LINE("");
-    SAME(capgauze_read_line(S, TABLE), 12, 0);
+    SAME(capgauze_read_line(S, 0, TABLE), 12, 0);
     /* what has no line; refused, the buffer stays */
-    room(18);
-    INDEX(0, 65535, 65535);
-    SAME(capgauze_write_line(TABLE, 1, BUF), 0, 18);
-    LINE_IS("0100000000FFFFFFFF");
-    room(17);
+    room(22);
+    INDEX(0, 16777215, 16777215);
+    SAME(capgauze_write_line(TABLE, 1, BUF), 0, 22);
+    LINE_IS("0200000000FFFFFFFFFFFF");
+    room(22);
+    INDEX(4294967295, 65536, 524287);
+    SAME(capgauze_write_line(TABLE, 1, BUF), 0, 22);
+    LINE_IS("02FFFFFFFF01000007FFFF");
+    room(21);
     SAME(capgauze_write_line(TABLE, 1, BUF), 5, 0);
-    INDEX(0, 65536, 1);
+    INDEX(0, 16777216, 1);
     SAME(capgauze_write_line(TABLE, 1, BUF), 12, 0);
-    INDEX(0, 0, 65536);
+    INDEX(0, 0, 16777216);
     SAME(capgauze_write_line(TABLE, 1, BUF), 12, 0);
     INDEX(0, 0, 0);
     SAME(capgauze_write_line(TABLE, 1, BUF), 12, 0);
@@ -372,35 +380,83 @@ static void lines(void) {
     SAME(capgauze_write_line(TABLE, 2, BUF), 12, 0);
     SAME(capgauze_write_line(TABLE, 3, BUF), 12, 0);
     SAME(capgauze_write_line(TABLE, SIZE_MAX, BUF), 12, 0);
-    BUF_IS("A5A5A5A5A5A5A5A5A5A5A5A5A5A5A5A5A5");
-    /* what is no line; refused, the index stays */
+    BUF_IS("A5A5A5A5A5A5A5A5A5A5A5A5A5A5A5A5A5A5A5A5A5");
+}
+
+/* Each is refused beside a message of any length, and the index stays. */
+static void none(int line, const char *from, size_t n) {
+    static const size_t beside[] = {0, 65535, 65536, CAPGAUZE_LIMIT, SIZE_MAX};
+    const uint64_t want[] = {12, 0};
+    text(n, from);
     lay(6, 0);
-    LINE("0");
-    SAME(capgauze_read_line(S, TABLE), 12, 0);
-    LINE("02");
-    SAME(capgauze_read_line(S, TABLE), 12, 0);
-    LINE("11");
-    SAME(capgauze_read_line(S, TABLE), 12, 0);
-    LINE("010");
-    SAME(capgauze_read_line(S, TABLE), 12, 0);
-    LINE("01\n");
-    SAME(capgauze_read_line(S, TABLE), 12, 0);
-    LINE("010000000a00000001");
-    SAME(capgauze_read_line(S, TABLE), 12, 0);
-    LINE("010000000G00000001");
-    SAME(capgauze_read_line(S, TABLE), 12, 0);
-    LINE("010000000A00000000");
-    SAME(capgauze_read_line(S, TABLE), 12, 0);
-    LINE("010000000A000000010000000A00000001");
-    SAME(capgauze_read_line(S, TABLE), 12, 0);
-    LINE("010000000A000000010000000B000000010000000A00000001"); /* before NoRoom */
-    SAME(capgauze_read_line(S, TABLE), 12, 0);
-    LINE("010000000A000000010000000B000000010000000C00000001");
-    SAME(capgauze_read_line(S, TABLE), 5, 0);
+    for (size_t i = 0; i < sizeof beside / sizeof *beside; i++) {
+        const capgauze_number got = capgauze_read_line(S, beside[i], TABLE);
+        same(line, from, &got, sizeof got, want, sizeof want);
+    }
     TABLE_IS(77, 77, 77, 77, 77, 77);
-    LINE("010000000AFFFF0001FFFFFFFF0000FFFF");
-    SAME(capgauze_read_line(S, TABLE), 0, 2);
+}
+#define NONE(from) none(__LINE__, from, sizeof from - 1)
+
+static void read_lines(void) {
+    NONE("0");
+    NONE("2");
+    NONE("00");
+    NONE("03");
+    NONE("10");
+    NONE("12");
+    NONE("20");
+    NONE(" 02");
+    NONE("010");
+    NONE("020");
+    NONE("02\n");
+    NONE("03" "0000000A000000000001");
+    NONE("01" "0000000A000000000001");
+    NONE("02" "0000000A00000001");
+    NONE("02" "0000000a000000000001");
+    NONE("02" "0000000G000000000001");
+    NONE("02" "0000000A000000000000");
+    NONE("02" "0000000A000000000001" "0000000A000000000001");
+    NONE("02" "0000000A000000000001" "0000000B000000000001" "0000000A000000000001"); /* before NoRoom */
+    NONE("01" "0000000a00000001");
+    NONE("01" "0000000G00000001");
+    NONE("01" "0000000A00000000");
+    NONE("01" "0000000A00000001" "0000000A00000001");
+    NONE("01" "0000000A00000001" "0000000B00000001" "0000000A00000001");
+    /* five entries of one width are four of the other: the edition says which */
+    NONE("02" "0000000A00000001" "0000000B00000001" "0000000C00000001" "0000000D00000001" "0000000E00000001");
+    lay(6, 0);
+    LINE("02" "0000000A000000000001" "0000000B000000000001" "0000000C000000000001");
+    SAME(capgauze_read_line(S, 0, TABLE), 5, 0);
+    LINE("01" "0000000A00000001" "0000000B00000001" "0000000C00000001");
+    SAME(capgauze_read_line(S, 0, TABLE), 5, 0);
+    SAME(capgauze_read_line(S, 65536, TABLE), 12, 0); /* before NoRoom */
+    TABLE_IS(77, 77, 77, 77, 77, 77);
+    LINE("02" "0000000AFFFFFF000001" "FFFFFFFF000000FFFFFF");
+    SAME(capgauze_read_line(S, 0, TABLE), 0, 2);
+    TABLE_IS(10, 16777215, 1, 4294967295, 0, 16777215);
+    /* edition 01 beside a short message; it comes back as edition 02 of the same index */
+    LINE("01" "0000000AFFFF0001" "FFFFFFFF0000FFFF");
+    lay(7, 0);
+    SAME(capgauze_read_line(S, 65536, TABLE), 12, 0);
+    SAME(capgauze_read_line(S, CAPGAUZE_LIMIT, TABLE), 12, 0);
+    SAME(capgauze_read_line(S, SIZE_MAX, TABLE), 12, 0);
+    TABLE_IS(77, 77, 77, 77, 77, 77, 77);
+    SAME(capgauze_read_line(S, 65535, TABLE), 0, 2);
+    TABLE_IS(10, 65535, 1, 4294967295, 0, 65535, 77);
+    lay(7, 0);
+    SAME(capgauze_read_line(S, 0, TABLE), 0, 2); /* shorter than its places: only a lookup looks at them */
+    TABLE_IS(10, 65535, 1, 4294967295, 0, 65535, 77);
+    room(42);
+    SAME(capgauze_write_line(TABLE, 2, BUF), 0, 42);
+    LINE_IS("02" "0000000A00FFFF000001" "FFFFFFFF00000000FFFF");
+    text(42, (const char *)buf);
+    lay(6, 0);
+    SAME(capgauze_read_line(S, SIZE_MAX, TABLE), 0, 2);
     TABLE_IS(10, 65535, 1, 4294967295, 0, 65535);
+    lay(0, 0);
+    LINE("01");
+    SAME(capgauze_read_line(S, 65535, TABLE), 0, 0);
+    SAME(capgauze_read_line(S, 65536, TABLE), 12, 0);
 }
 
 static void soundings(void) {
@@ -425,6 +481,84 @@ static void soundings(void) {
     TABLE_IS(77, 77, 77, 77);
 }
 
+/* ---- The longest messages, with all that is lent elsewhere than on the stack, which is as small as a thread's may be ---- */
+
+#define FIELDS 524287
+static void longest(void) {
+    /* the most fields: all of two bytes, the last of three */
+    len = CAPGAUZE_LIMIT;
+    bytes = lend(len); /* zeros */
+    bytes[len - 2] = 0x80;
+    lay(CAPGAUZE_RECORD_WORDS * FIELDS, 0);
+    SAME(capgauze_read_message(S, 0, len, TABLE), 0, CAPGAUZE_LIMIT, FIELDS);
+    SAME((uint64_t)table[4 * FIELDS - 2], 128);
+    room(CAPGAUZE_LIMIT);
+    SAME(capgauze_encode_message(S, TABLE, FIELDS, BUF), 0, 0, CAPGAUZE_LIMIT);
+    SAME((uint64_t)memcmp(buf, bytes, len), 0);
+    room(CAPGAUZE_LIMIT);
+    SAME(capgauze_prepend_message(S, TABLE, FIELDS, BUF), 0, 0, CAPGAUZE_LIMIT);
+    SAME((uint64_t)memcmp(buf, bytes, len), 0);
+    room(CAPGAUZE_LIMIT - 1);
+    SAME(capgauze_encode_message(S, TABLE, FIELDS, BUF), 5, 0, 0);
+    SAME(capgauze_encoded_len_message(S, TABLE, FIELDS), 0, 0, CAPGAUZE_LIMIT);
+    SAME(capgauze_insert(S, TABLE, FIELDS - 1, 31, 0, 128, 0), 0, FIELDS);
+    SAME(capgauze_encoded_len_message(S, TABLE, FIELDS), 0, 0, CAPGAUZE_LIMIT);
+    table[4 * FIELDS - 4] = 32; /* its key takes one byte more than may be written */
+    SAME(capgauze_encoded_len_message(S, TABLE, FIELDS), 4, 0, 0);
+    SAME(capgauze_encode_message(S, TABLE, FIELDS, buf, 0), 4, 0, 0); /* before NoRoom */
+    lay(4 * FIELDS - 1, 0);
+    SAME(capgauze_read_message(S, 0, len, TABLE), 5, 0, FIELDS);
+    SAME(capgauze_pick(S, 1), 0, 0, 0, 0, 0);
+    SAME(capgauze_pick_at(S, 0, FIELDS - 1), 0, FIELDS, 1, 0, 128, 0);
+    SAME(capgauze_pick_early(S, 0), 11, 0, 0, 0, 0, 0);
+    SAME(capgauze_skip_field(S, 1, len, CAPGAUZE_VARINT), 0, CAPGAUZE_LIMIT);
+    /* the most tags, and the longest line */
+    bytes[len - 2] = 0;
+    len--;
+    for (size_t i = 0; i < len; i += 2) bytes[i] = 4;
+    lay(CAPGAUZE_INDEX_WORDS * FIELDS, 0);
+    SAME(capgauze_make_index(S, TABLE), 0, FIELDS);
+    SAME(FITS(FIELDS), 1);
+    SAME(PICK(FIELDS, FIELDS), 0, 1, 0, 0, 0);
+    const uint64_t *made = table;
+    room(2 + 20 * FIELDS);
+    SAME(capgauze_write_line(TABLE, FIELDS, BUF), 0, 2 + 20 * FIELDS);
+    SAME((uint64_t)memcmp(buf + buf_len - 20, "0007FFFF0FFFFC000001", 20), 0);
+    lay(CAPGAUZE_INDEX_WORDS * FIELDS, 0);
+    SAME(capgauze_read_line(BUF, len, TABLE), 0, FIELDS);
+    SAME((uint64_t)memcmp(table, made, 8 * words), 0);
+    /* the longest payload, and one byte more */
+    for (size_t n = CAPGAUZE_LIMIT - 4; n < CAPGAUZE_LIMIT - 2; n++) {
+        len = n;
+        bytes = lend(len);
+        lay(4, (const uint64_t[]){0, 1, 0, n});
+        room(CAPGAUZE_LIMIT);
+        if (n == CAPGAUZE_LIMIT - 4) SAME(capgauze_encode_message(S, TABLE, 1, BUF), 0, 0, CAPGAUZE_LIMIT);
+        else SAME(capgauze_encode_message(S, TABLE, 1, BUF), 4, 0, 0);
+    }
+    /* a sounding as long as a message may be: a head of four bytes, levels of four, and a field that is passed over */
+    len = CAPGAUZE_LIMIT;
+    bytes = lend(len);
+    memcpy(bytes, "\x04\x01\x04\x00\x05\x02\x04\x64", 8);
+    for (size_t at = 8; at < len - 3; at += 4) memcpy(bytes + at, "\x01\x02\x04\x64", 4);
+    memcpy(bytes + len - 3, "\x05\x01", 3);
+    lay(CAPGAUZE_LEVEL_WORDS * 262142, 0);
+    SAME(capgauze_read_sounding(S, TABLE), 0, 1, 0, 262142);
+    SAME((uint64_t)table[words - 5], 100);
+}
+
+static void *in_a_thread(void *nothing) {
+    longest();
+    return nothing;
+}
+static void small_stack(void) {
+    pthread_attr_t attr;
+    pthread_t thread;
+    if (pthread_attr_init(&attr) || pthread_attr_setstacksize(&attr, PTHREAD_STACK_MIN) ||
+        pthread_create(&thread, &attr, in_a_thread, 0) || pthread_join(thread, 0))
+        exit(2);
+}
+
 int main(void) {
     numbers();
     parts();
@@ -433,7 +567,9 @@ int main(void) {
     indexes();
     lookups();
     lines();
+    read_lines();
     soundings();
+    small_stack();
     printf("%d answers, %d differ\n", calls, failures);
     return failures != 0;
 }

@@ -25,7 +25,7 @@ import os
 from array import array
 from collections import namedtuple
 
-LIMIT = 65_535  # the longest message
+LIMIT = 1_048_575  # the longest message
 RECORD_WORDS = 4
 INDEX_WORDS = 3
 LEVEL_WORDS = 5
@@ -103,7 +103,7 @@ _ENTRIES = {
     "index_fits": (_U64, *_BYTES, *_TABLE, _SIZE),
     "pick_indexed": (_answer("number found type value length"), *_BYTES, *_TABLE, _SIZE, _U32),
     "write_line": (_NUMBER, *_TABLE, _SIZE, *_BYTES),
-    "read_line": (_NUMBER, *_BYTES, *_TABLE),
+    "read_line": (_NUMBER, *_BYTES, _SIZE, *_TABLE),
     "read_sounding": (_answer("number station launch levels"), *_BYTES, *_TABLE),
 }
 
@@ -162,6 +162,11 @@ def _accepted(name, *arguments):
 
 def _end(s, end):
     return memoryview(s).nbytes if end is None else end
+
+
+def _most_fields(s):
+    """No message of these bytes has more fields, each of which takes two; a longer one than LIMIT is refused."""
+    return min(memoryview(s).nbytes, LIMIT) // 2
 
 
 # ---- Numbers ----
@@ -226,7 +231,7 @@ def step_at(s, at=0, end=None, last=0):
 
 def words(count):
     """A table of that many words, all 0."""
-    return array("Q", bytes(8 * count))
+    return array("Q", (0,)) * count
 
 
 def read_message(s, table, start=0, end=None):
@@ -324,13 +329,22 @@ def pick_indexed(s, index, tags, tag):
 
 
 def write_line(index, tags, line):
-    """Writes an index as a line of 2 + 16 * tags characters to the buffer's front: its length."""
+    """Writes an index as a line of 2 + 20 * tags characters, edition 02, to the buffer's front: its length."""
     return _accepted("write_line", *room(index, ctypes.c_uint64), tags, *room(line))[0]
 
 
-def read_line(line, index):
-    """Reads a line as an index, three words a tag: how many tags it has."""
-    return _accepted("read_line", *lent(line), *room(index, ctypes.c_uint64))[0]
+def read_line(line, message_len, index):
+    """Reads a line as an index, three words a tag, beside a message of a length: how many tags it has.
+
+    Edition 02 is read beside any message, edition 01 beside one of up to 65,535 bytes.
+
+    >>> read_line(b"010000000A00040001", 65_535, words(3))
+    1
+    >>> read_line(b"010000000A00040001", 65_536, words(3))
+    Traceback (most recent call last):
+    capgauze.Refused: BadIndex (12)
+    """
+    return _accepted("read_line", *lent(line), message_len, *room(index, ctypes.c_uint64))[0]
 
 
 class Index:
@@ -341,8 +355,8 @@ class Index:
     >>> index.pick(message, 3)
     Picked(type=0, value=1, length=0)
     >>> index.line()
-    '0100000001000000020000000300040001'
-    >>> Index.of_line(index.line()).fits(message)
+    '020000000100000000000200000003000004000001'
+    >>> Index.of_line(index.line(), len(message)).fits(message)
     True
     >>> list(index)
     [Entry(tag=1, place=0, count=2), Entry(tag=3, place=4, count=1)]
@@ -350,19 +364,19 @@ class Index:
 
     def __init__(self, s):
         s = s if isinstance(s, bytes) else bytes(memoryview(s))
-        self._fill(make_index, s, min(len(s), LIMIT) // 2)
+        self._fill(_most_fields(s), make_index, s)
 
     @classmethod
-    def of_line(cls, line):
-        """The index of a line, which is a text or bytes, without its end."""
+    def of_line(cls, line, message_len):
+        """The index of a line, which is a text or bytes, without its end, beside a message of a length."""
         line = line.encode() if isinstance(line, str) else bytes(memoryview(line))
         index = cls.__new__(cls)
-        index._fill(read_line, line, len(line) // 16)
+        index._fill(len(line) // 16, read_line, line, message_len)  # the digits of an entry in edition 01, the shorter one
         return index
 
-    def _fill(self, fill, s, most):
+    def _fill(self, most, fill, *asked):
         table = words(INDEX_WORDS * most)
-        self.words = table[:INDEX_WORDS * fill(s, table)]
+        self.words = table[:INDEX_WORDS * fill(*asked, table)]
 
     def __len__(self):
         return len(self.words) // INDEX_WORDS
@@ -383,8 +397,8 @@ class Index:
         return pick_indexed(s, self.words, len(self), tag)
 
     def line(self):
-        """Its line, without an end."""
-        line = bytearray(2 + 16 * len(self))
+        """Its line, of edition 02, without an end."""
+        line = bytearray(2 + 20 * len(self))
         write_line(self.words, len(self), line)
         return line.decode()
 
@@ -410,7 +424,7 @@ def sounding(s):
     [Level(pressure_pa=100, temperature_c=-0.2, dewpoint_depression_c=None)]
     """
     s = s if isinstance(s, bytes) else bytes(memoryview(s))
-    table = words(LEVEL_WORDS * (len(s) // 2))
+    table = words(LEVEL_WORDS * (_most_fields(s) // 2))  # a level with its pressure takes four bytes
     station, launch, count = read_sounding(s, table)
     return Sounding(station, launch, [_level(*table[at:at + LEVEL_WORDS]) for at in range(0, LEVEL_WORDS * count, LEVEL_WORDS)])
 
@@ -477,7 +491,7 @@ def records(s, start=0, end=None):
     Record(tag=2, type=0, value=10, length=0)
     Record(tag=4, type=1, value=6, length=2)
     """
-    table = words(RECORD_WORDS * (memoryview(s).nbytes // 2))
+    table = words(RECORD_WORDS * _most_fields(s))
     count = read_message(s, table, start, end).count
     rows = range(0, RECORD_WORDS * count, RECORD_WORDS)
     return [Record(*table[at:at + RECORD_WORDS]) for at in rows]

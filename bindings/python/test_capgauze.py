@@ -1,5 +1,6 @@
 """The module's tests: the examples in its text, the fixed list, and what is Python's own: buffers, numbers, refusals."""
 import doctest
+import threading
 import unittest
 from array import array
 
@@ -135,6 +136,39 @@ class Messages(unittest.TestCase):
         self.assertEqual([capgauze.key_len(0, tag) for tag in (31, 32)], [1, 2])
 
 
+class TheLimit(unittest.TestCase):
+    """The longest messages, in a thread with a small stack: what is read and written lies on the heap."""
+
+    def test_the_longest(self):
+        before = threading.stack_size(256 * 1024)
+        try:
+            seen = []
+            thread = threading.Thread(target=lambda: seen.append(self.longest()))
+            thread.start()
+            thread.join()
+        finally:
+            threading.stack_size(before)
+        self.assertEqual(seen, [(524_287, True, capgauze.LIMIT, 262_142)])
+
+    def longest(self):
+        message = bytes(capgauze.LIMIT - 3) + b"\0\x80\0"
+        records = capgauze.records(message)
+        same = capgauze.message(records, message) == message
+        payload = capgauze.message([(0, 1, 0, capgauze.LIMIT - 4)], message)
+        levels = b"\x05\x02\x04\x64" + b"\x01\x02\x04\x64" * 262_141
+        return len(records), same, len(payload), len(capgauze.sounding(b"\x04\x01\x04\0" + levels + b"\x05\x01\0").levels)
+
+    def test_one_byte_over(self):
+        source = bytes(capgauze.LIMIT + 1)
+        for call in (capgauze.records, capgauze.sounding, capgauze.Index, lambda s: capgauze.pick(s, 0)):
+            with self.assertRaises(capgauze.Refused) as caught:
+                call(source)
+            self.assertEqual(caught.exception.name, "TooLong")
+        with self.assertRaises(capgauze.Refused) as caught:
+            capgauze.message([(0, 1, 0, capgauze.LIMIT - 3)], source[1:])
+        self.assertEqual(caught.exception.name, "TooLong")
+
+
 class Lent(unittest.TestCase):
     def test_empty(self):
         self.assertEqual(capgauze.read_message(b"", array("Q")), (0, 0))
@@ -161,7 +195,8 @@ class Lent(unittest.TestCase):
 
 class Indexes(unittest.TestCase):
     WORDS = [1, 0, 1, 3, 10, 2]
-    LINE = b"01000000010000000100000003000A0002"
+    LINE = b"02000000010000000000010000000300000A000002"
+    OLD_LINE = b"01000000010000000100000003000A0002"
 
     def refused(self, number, call, *arguments):
         with self.assertRaises(capgauze.Refused) as caught:
@@ -208,23 +243,42 @@ class Indexes(unittest.TestCase):
             capgauze.pick_indexed(MESSAGE, index, 2, 2**32)
 
     def test_lines(self):
-        line = bytearray(b"-" * 35)
-        self.assertEqual(capgauze.write_line(array("Q", self.WORDS), 2, line), 34)
+        line = bytearray(b"-" * 43)
+        self.assertEqual(capgauze.write_line(array("Q", self.WORDS), 2, line), 42)
         self.assertEqual(line, self.LINE + b"-")
         index = array("Q", [77] * 6)
-        self.refused(12, capgauze.read_line, line, index)
-        self.refused(12, capgauze.read_line, self.LINE.lower(), index)
-        for none in (b"", b"0", b"02", b"010000000A00000000", b"010000000A000000010000000A00000001"):
-            self.refused(12, capgauze.read_line, none, index)
-        self.refused(5, capgauze.read_line, self.LINE, index[:5])
+        self.refused(12, capgauze.read_line, line, 19, index)
+        self.refused(12, capgauze.read_line, self.LINE.lower(), 19, index)
+        for none in (b"", b"0", b"03", b"020", b"020000000A000000000000", b"010000000A00000000", b"010000000A000000000001",
+                     b"020000000A00000001", b"020000000A0000000000010000000A000000000001",
+                     b"010000000A000000010000000A00000001"):
+            for beside in (0, 65_535, 65_536, 2**64 - 1):
+                self.refused(12, capgauze.read_line, none, beside, index)
+        self.refused(5, capgauze.read_line, self.LINE, 19, index[:5])
         self.assertEqual(list(index), [77] * 6)
-        self.assertEqual(capgauze.read_line(self.LINE, index), 2)
+        self.assertEqual(capgauze.read_line(self.LINE, 19, index), 2)
         self.assertEqual(list(index), self.WORDS)
-        self.assertEqual(capgauze.read_line(b"01", array("Q")), 0)
-        for index, tags, number in (((), 0, 5), ((0, 65_536, 1), 1, 12), ((0, 0, 65_536), 1, 12), ((0, 0, 0), 1, 12)):
+        self.assertEqual(capgauze.read_line(b"02", 19, array("Q")), 0)
+        for index, tags, number in (((), 0, 5), ((0, 2**24, 1), 1, 12), ((0, 0, 2**24), 1, 12), ((0, 0, 0), 1, 12)):
             line = bytearray(b"-")
             self.refused(number, capgauze.write_line, array("Q", index), tags, line)
             self.assertEqual(line, b"-")
+        with self.assertRaises(OverflowError):
+            capgauze.read_line(b"02", -1, array("Q"))
+
+    def test_lines_of_edition_01(self):
+        for beside in (0, 19, 65_535):
+            index = array("Q", [77] * 6)
+            self.assertEqual(capgauze.read_line(self.OLD_LINE, beside, index), 2)
+            self.assertEqual(list(index), self.WORDS)
+            self.assertEqual(capgauze.Index.of_line(self.OLD_LINE, beside).line(), self.LINE.decode())
+            self.assertEqual(capgauze.Index.of_line("01", beside).line(), "02")
+        for beside in (65_536, capgauze.LIMIT, 2**64 - 1):
+            index = array("Q", [77] * 6)
+            self.refused(12, capgauze.read_line, self.OLD_LINE, beside, index)
+            self.refused(12, capgauze.read_line, b"01", beside, index)
+            self.assertEqual(list(index), [77] * 6)
+            self.assertEqual(capgauze.read_line(self.LINE, beside, index), 2)
 
     def test_an_index_with_its_own_words(self):
         for kind in (bytes, bytearray, memoryview):
@@ -234,14 +288,16 @@ class Indexes(unittest.TestCase):
             self.assertEqual(index.pick(kind(MESSAGE), 1), (0, 2**64 - 1, 0))
         self.assertEqual(index.line(), self.LINE.decode())
         for line in (self.LINE, self.LINE.decode(), bytearray(self.LINE)):
-            self.assertEqual(capgauze.Index.of_line(line), index)
-        self.assertEqual(capgauze.Index(b"").line(), "01")
+            self.assertEqual(capgauze.Index.of_line(line, len(MESSAGE)), index)
+        self.assertEqual(capgauze.Index(b"").line(), "02")
         self.assertNotEqual(capgauze.Index(b""), index)
-        self.refused(12, capgauze.Index.of_line, "01é")
+        self.refused(12, capgauze.Index.of_line, "02é", 0)
         self.refused(1, capgauze.Index, MESSAGE[:-1])
         self.refused(4, capgauze.Index, bytes(capgauze.LIMIT + 1))
-        tags = capgauze.Index(b"\x04\0" * 32_767)
-        self.assertEqual(capgauze.Index.of_line(tags.line()), tags)
+        message = b"\x04\0" * (capgauze.LIMIT // 2)
+        tags = capgauze.Index(message)
+        self.assertEqual(len(tags), 524_287)
+        self.assertEqual(capgauze.Index.of_line(tags.line(), len(message)), tags)
 
 
 class Soundings(unittest.TestCase):

@@ -57,6 +57,6 @@ extern "C" {
     pub fn capgauze_index_fits(s: *const u8, len: usize, index: *const u64, words: usize, tags: usize) -> u64;
     pub fn capgauze_pick_indexed(s: *const u8, len: usize, index: *const u64, words: usize, tags: usize, tag: u32) -> Picked;
     pub fn capgauze_write_line(index: *const u64, words: usize, tags: usize, line: *mut u8, line_len: usize) -> Number;
-    pub fn capgauze_read_line(line: *const u8, line_len: usize, index: *mut u64, words: usize) -> Number;
+    pub fn capgauze_read_line(line: *const u8, line_len: usize, message_len: usize, index: *mut u64, words: usize) -> Number;
     pub fn capgauze_read_sounding(s: *const u8, len: usize, levels: *mut u64, words: usize) -> Sounding;
 }

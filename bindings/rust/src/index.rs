@@ -15,8 +15,8 @@ use alloc::{string::String, vec, vec::Vec};
 /// assert_eq!(index.pick(&message, 3), Ok(Some(Value::Varint(9))));
 ///
 /// let line = index.to_line();
-/// assert_eq!(line, "0100000001000000020000000300040001");
-/// let read = Index::from_line(&line)?;
+/// assert_eq!(line, "020000000100000000000200000003000004000001");
+/// let read = Index::from_line(&line, message.len())?;
 /// assert!(read.fits(&message));
 /// assert_eq!(read, index);
 /// # Ok::<(), capgauze::Refusal>(())
@@ -27,22 +27,26 @@ pub struct Index {
 }
 
 impl Index {
-    /// The index of a message. Refusals: as [`make_index`], without NoRoom.
+    /// The index of a message. Refusals: as [`make_index`], without NoRoom. While it is made, it has room on the heap for the
+    /// most tags that a message of this length can have: 12 bytes for each byte of it.
     pub fn of(message: &[u8]) -> Result<Index, Refusal> {
         let most = message.len().min(LIMIT) / 2; // a field takes two bytes
         Index::filled(most, |words| make_index(message, words))
     }
 
-    /// The index of a line, without its end. Refusal: BadIndex.
+    /// The index of a line, without its end, beside a message of a length ([`read_line`]). A line of edition 01 comes back from
+    /// [`to_line`](Index::to_line) as one of edition 02. Refusal: BadIndex.
     ///
     /// ```
     /// # use capgauze::{Index, Refusal};
-    /// assert_eq!(Index::from_line("01")?.tags(), 0);
-    /// assert_eq!(Index::from_line("02"), Err(Refusal::BadIndex));
+    /// let index = Index::from_line("010000000A00040001", 6)?;
+    /// assert_eq!(index.to_line(), "020000000A000004000001");
+    /// assert_eq!(Index::from_line("010000000A00040001", 65_536), Err(Refusal::BadIndex));
     /// # Ok::<(), Refusal>(())
     /// ```
-    pub fn from_line(line: &str) -> Result<Index, Refusal> {
-        Index::filled(line.len() / LINE_DIGITS, |words| read_line(line.as_bytes(), words))
+    pub fn from_line(line: &str, message_len: usize) -> Result<Index, Refusal> {
+        let most = line.len() / OLD_LINE_DIGITS; // of both editions
+        Index::filled(most, |words| read_line(line.as_bytes(), message_len, words))
     }
 
     fn filled(
@@ -56,7 +60,7 @@ impl Index {
         Ok(Index { words })
     }
 
-    /// Its line, without an end of line.
+    /// Its line, of edition 02, without an end of line.
     pub fn to_line(&self) -> String {
         let mut line = vec![0; 2 + LINE_DIGITS * self.tags()];
         write_line(&self.words, self.tags(), &mut line).expect("an index of a message or a line");
@@ -96,5 +100,6 @@ impl Index {
     }
 }
 
-/// The characters of an entry in a line.
-const LINE_DIGITS: usize = 16;
+/// The characters of an entry in a line of edition 02, and of edition 01.
+const LINE_DIGITS: usize = 20;
+const OLD_LINE_DIGITS: usize = 16;

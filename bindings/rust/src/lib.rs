@@ -5,7 +5,9 @@
 //! it was lent as it was. Nothing is allocated, but by [`Index`] (the feature `alloc`), and nothing panics.
 //!
 //! A message is read into a table, four words a record ([`Record`]); records are written from one. Payloads are parts of
-//! the message, not copies. Half as many records as a message has bytes always suffice.
+//! the message, not copies. Half as many records as a message has bytes always suffice; of the longest message that is a
+//! table of 16 MB, which belongs into a `Vec` and not onto a thread's stack. A table of no words is refused as NoRoom with
+//! the number of records that are needed.
 //!
 //! ```
 //! use capgauze::{read_message, payload_of, Record, Value};
@@ -36,7 +38,7 @@ pub use index::Index;
 pub use types::*;
 
 /// The longest slice that is read, and the longest message that is written.
-pub const LIMIT: usize = 65_535;
+pub const LIMIT: usize = 1_048_575;
 
 /// The words of a level in a table.
 pub const LEVEL_WORDS: usize = 5;
@@ -471,33 +473,36 @@ pub fn pick_indexed(
     picked(unsafe { ffi::capgauze_pick_indexed(s.as_ptr(), s.len(), from, words, tags, tag) })
 }
 
-/// Writes an index as a line of 2 + 16 · `tags` characters to the front of a buffer, without an end of line: its length.
-/// Refusals: BadIndex, also for a place or a count above 65,535; NoRoom.
+/// Writes an index as a line of 2 + 20 · `tags` characters, edition 02, to the front of a buffer, without an end of line:
+/// its length. Refusals: BadIndex, also for a place or a count above 16,777,215; NoRoom.
 ///
 /// ```
 /// # use capgauze::write_line;
-/// let mut line = [b'-'; 20];
-/// assert_eq!(write_line(&[10, 4, 1], 1, &mut line), Ok(18));
-/// assert_eq!(&line, b"010000000A00040001--");
+/// let mut line = [b'-'; 24];
+/// assert_eq!(write_line(&[10, 4, 1], 1, &mut line), Ok(22));
+/// assert_eq!(&line, b"020000000A000004000001--");
 /// ```
 pub fn write_line(index: &[u64], tags: usize, line: &mut [u8]) -> Result<usize, Refusal> {
     let (from, words) = (index.as_ptr(), index.len());
     length(unsafe { ffi::capgauze_write_line(from, words, tags, line.as_mut_ptr(), line.len()) })
 }
 
-/// Reads a line as an index, three words a tag: how many tags it has. Refusals: BadIndex for a line that [`write_line`] does
-/// not write; NoRoom.
+/// Reads a line as an index, three words a tag: how many tags it has. `message_len` is the length of the message that the
+/// line stands beside. Edition 02, which [`write_line`] writes, is read beside any; edition 01, 16 characters a tag, beside
+/// one of up to 65,535 bytes. Refusals: BadIndex for every other line; NoRoom.
 ///
 /// ```
 /// # use capgauze::{read_line, Refusal};
 /// let mut index = [0; 3];
-/// assert_eq!(read_line(b"010000000A00040001", &mut index), Ok(1));
+/// assert_eq!(read_line(b"020000000A000004000001", 6, &mut index), Ok(1));
 /// assert_eq!(index, [10, 4, 1]);
-/// assert_eq!(read_line(b"010000000a00040001", &mut index), Err(Refusal::BadIndex));
+/// assert_eq!(read_line(b"020000000a000004000001", 6, &mut index), Err(Refusal::BadIndex));
+/// assert_eq!(read_line(b"010000000A00040001", 65_535, &mut index), Ok(1));
+/// assert_eq!(read_line(b"010000000A00040001", 65_536, &mut index), Err(Refusal::BadIndex));
 /// ```
-pub fn read_line(line: &[u8], index: &mut [u64]) -> Result<usize, Refusal> {
+pub fn read_line(line: &[u8], message_len: usize, index: &mut [u64]) -> Result<usize, Refusal> {
     let (to, words) = (index.as_mut_ptr(), index.len());
-    length(unsafe { ffi::capgauze_read_line(line.as_ptr(), line.len(), to, words) })
+    length(unsafe { ffi::capgauze_read_line(line.as_ptr(), line.len(), message_len, to, words) })
 }
 
 // ---- Soundings ----

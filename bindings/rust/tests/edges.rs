@@ -33,7 +33,7 @@ fn empty_slices() {
     assert!(index_fits(&[], &[], 0));
     assert_eq!(pick_indexed(&[], &[], 0, 0), Ok(None));
     assert_eq!(write_line(&[], 0, &mut []), Err(Refusal::NoRoom));
-    assert_eq!(read_line(&[], &mut []), Err(Refusal::BadIndex));
+    assert_eq!(read_line(&[], 0, &mut []), Err(Refusal::BadIndex));
     assert_eq!(fields(&[]).next(), None);
     assert_eq!(encode_varint(0, &mut []), Err(Refusal::NoRoom));
     assert_eq!(prepend_varint(0, &mut []), Err(Refusal::NoRoom));
@@ -149,14 +149,18 @@ fn places_past_the_slice() {
 #[test]
 fn the_limit() {
     let mut message = vec![0x00; LIMIT - 3];
-    message.extend([0x00, 0x80, 0x00]); // 32,766 fields of two bytes, one of three
-    let mut table = filled(77, 4 * 32_767);
+    message.extend([0x00, 0x80, 0x00]); // FIELDS - 1 fields of two bytes, one of three
+    let mut table = filled(77, 4 * FIELDS);
     let read = read_message(&message, 0, LIMIT, &mut table);
-    assert_eq!(read, Ok(Read { place: LIMIT, count: 32_767 }));
+    assert_eq!(read, Ok(Read { place: LIMIT, count: FIELDS }));
     let mut buf = filled(0xA5, LIMIT + 1);
-    let written = prepend_message(&message, &table, 32_767, &mut buf);
+    let written = prepend_message(&message, &table, FIELDS, &mut buf);
     assert_eq!(written, Ok(Written { start: 1, length: LIMIT }));
-    assert_eq!((buf[0], &buf[1..]), (0xA5, &message[..]));
+    assert!(buf[0] == 0xA5 && buf[1..] == message);
+    let short = read_message(&message, 0, LIMIT, &mut table[..4 * FIELDS - 1]);
+    assert_eq!(short, Err(RefusedRead { refusal: Refusal::NoRoom, place: 0, count: FIELDS }));
+    assert_eq!(pick_at(&message, 0, FIELDS - 1), Ok((FIELDS, Some(Value::Varint(128)))));
+    assert_eq!(fields(&message).filter(Result::is_ok).count(), FIELDS);
 
     message.push(0x00);
     let refusal = Refusal::TooLong;
@@ -172,7 +176,7 @@ fn the_limit() {
         insert(&message, &mut table, 0, Record::default()),
         Err(RefusedInsert { refusal, index: 0 })
     );
-    assert_eq!(table, before);
+    assert!(table == before);
     let whole = Record { tag: 0, wire_type: 1, value: 0, length: message.len() as u64 };
     let part = payload_of(&message, whole);
     assert_eq!((part.as_ptr(), part.len()), (message.as_ptr(), message.len())); // a part, not a copy
@@ -181,13 +185,40 @@ fn the_limit() {
         Err(RefusedRead { refusal, place: 0, count: 0 })
     );
 
-    // 1 byte of key, 3 of length: a payload of 65,531 bytes is the longest
+    // 1 byte of key, 3 of length: a payload of 1,048,571 bytes is the longest
     let payload = |length| [0, 1, 0, length];
-    assert_eq!(encoded_len_message(&message[..LIMIT], &payload(65_531), 1), Ok(LIMIT));
+    assert_eq!(encoded_len_message(&message[..LIMIT], &payload(1_048_571), 1), Ok(LIMIT));
     assert_eq!(
-        encoded_len_message(&message[..LIMIT], &payload(65_532), 1),
+        encoded_len_message(&message[..LIMIT], &payload(1_048_572), 1),
         Err(refused_too_long())
     );
+    // payloads of gigabytes, all told, and a bad record behind them
+    let mut table = payload(LIMIT as u64).repeat(5_000);
+    assert_eq!(encoded_len_message(&message[..LIMIT], &table, 5_000), Err(refused_too_long()));
+    table[4 * 5_000 - 1] += 1;
+    let bad = RefusedWrite { refusal: Refusal::BadRecord, index: 4_999, length: 0 };
+    assert_eq!(encoded_len_message(&message[..LIMIT], &table, 5_000), Err(bad));
+}
+
+/// The fields of the longest messages that have the most of them.
+const FIELDS: usize = LIMIT / 2;
+
+/// Tables, indexes and lines are on the heap: a thread needs no stack for them.
+#[test]
+fn the_longest_on_a_small_stack() {
+    let work = || {
+        let message = [4, 0].repeat(FIELDS);
+        let mut table = filled(0, 4 * FIELDS);
+        assert!(read_message(&message, 0, message.len(), &mut table).is_ok());
+        let mut buf = filled(0, message.len());
+        assert!(encode_message(&message, &table, FIELDS, &mut buf).is_ok());
+        assert!(buf == message);
+        let index = Index::of(&message).unwrap();
+        assert!(index.fits(&message));
+        assert_eq!(index.pick(&message, FIELDS as u32), Ok(Some(Value::Varint(0))));
+        assert!(Index::from_line(&index.to_line(), message.len()) == Ok(index));
+    };
+    std::thread::Builder::new().stack_size(32 << 10).spawn(work).unwrap().join().unwrap();
 }
 
 fn refused_too_long() -> RefusedWrite {
@@ -213,22 +244,25 @@ fn indexes_of_every_small_size() {
             let looked = pick_indexed(&MESSAGE, &INDEX[..words], tags, 2);
             let found = (tags == 2).then_some(Value::Varint(9));
             assert_eq!(looked, if tags > room { Err(Refusal::BadIndex) } else { Ok(found) });
-            for line_len in [0, 1, 2, 3, 17, 18, 19, 33, 34, 35] {
+            for line_len in [0, 1, 2, 3, 21, 22, 23, 41, 42, 43] {
                 let mut line = filled(b'-', line_len);
                 let answer = write_line(&INDEX[..words], tags, &mut line);
-                let length = 2 + 16 * tags.min(4);
+                let length = 2 + 20 * tags.min(4);
                 let refused = if tags > room { Refusal::BadIndex } else { Refusal::NoRoom };
                 if tags > room || length > line_len {
                     assert_eq!((answer, line), (Err(refused), filled(b'-', line_len)));
                     continue;
                 }
                 assert_eq!(answer, Ok(length));
-                assert_eq!(line[..length], b"0100000001000000020000000200040001"[..length]);
+                assert_eq!(line[..length], b"020000000100000000000200000002000004000001"[..length]);
                 assert_eq!(line[length..], filled(b'-', line_len - length));
-                let mut read = filled(77, words);
-                assert_eq!(read_line(&line[..length], &mut read), Ok(tags));
-                assert_eq!(read[..3 * tags], INDEX[..3 * tags]);
-                assert_eq!(read[3 * tags..], filled(77, words - 3 * tags));
+                let old = &b"0100000001000000020000000200040001"[..2 + 16 * tags];
+                for line in [&line[..length], old] {
+                    let mut read = filled(77, words);
+                    assert_eq!(read_line(line, MESSAGE.len(), &mut read), Ok(tags));
+                    assert_eq!(read[..3 * tags], INDEX[..3 * tags]);
+                    assert_eq!(read[3 * tags..], filled(77, words - 3 * tags));
+                }
             }
         }
     }
@@ -276,15 +310,53 @@ fn lookups_through_an_index_of_another_message() {
 #[test]
 fn lines_that_are_none() {
     for line in [
-        "0", "02", "11", "1", "010", "01\n", "01 ", "010000000A0000000", "010000000A000000010",
-        "010000000a00000001", "010000000G00000001", "010000000:00000001", "010000000@00000001",
-        "010000000/00000001", "010000000A00000000", "010000000A000000010000000A00000001",
-        "010000000B000000010000000A00000001", "01é000000A0000001",
+        "0", "2", "00", "03", "10", "12", "20", "010", "020", "01\n", "02\n", "02 ",
+        "020000000A00000000000", "020000000A0000000000010", "020000000a000000000001", "020000000G000000000001",
+        "020000000:000000000001", "020000000@000000000001", "020000000/000000000001", "020000000A000000000000",
+        "020000000A0000000000010000000A000000000001", "020000000B0000000000010000000A000000000001",
+        "02é000000A00000000001", "030000000A000000000001", "020000000A00000001", "010000000A000000000001",
+        "010000000A0000000", "010000000A000000010", "010000000a00000001", "010000000G00000001",
+        "010000000A00000000", "010000000A000000010000000A00000001", "010000000B000000010000000A00000001",
+        "01é000000A0000001",
     ] {
-        let mut index = filled(77, 9);
-        assert_eq!(read_line(line.as_bytes(), &mut index), Err(Refusal::BadIndex), "{line}");
-        assert_eq!(index, filled(77, 9));
-        assert_eq!(Index::from_line(line), Err(Refusal::BadIndex), "{line}");
+        for message_len in [0, 65_535, 65_536, LIMIT, usize::MAX] {
+            let mut index = filled(77, 9);
+            let answer = read_line(line.as_bytes(), message_len, &mut index);
+            assert_eq!(answer, Err(Refusal::BadIndex), "{line}");
+            assert_eq!(index, filled(77, 9));
+            assert_eq!(Index::from_line(line, message_len), Err(Refusal::BadIndex), "{line}");
+        }
+    }
+}
+
+#[test]
+fn lines_of_the_two_editions() {
+    let old = "010000000AFFFF0001FFFFFFFF0000FFFF";
+    let new = "020000000A00FFFF000001FFFFFFFF00000000FFFF";
+    for message_len in [0, 1, 65_534, 65_535, 65_536, LIMIT, LIMIT + 1, usize::MAX] {
+        let read = Index::from_line(new, message_len).unwrap();
+        assert_eq!(read.words(), [10, 65_535, 1, u32::MAX.into(), 0, 65_535]);
+        assert_eq!(read.to_line(), new);
+        let empty = Index::from_line("02", message_len).map(|index| index.tags());
+        assert_eq!(empty, Ok(0));
+        if message_len <= 65_535 {
+            assert_eq!(Index::from_line(old, message_len), Ok(read));
+            assert_eq!(Index::from_line("01", message_len).unwrap().to_line(), "02");
+        } else {
+            assert_eq!(Index::from_line(old, message_len), Err(Refusal::BadIndex));
+            assert_eq!(Index::from_line("01", message_len), Err(Refusal::BadIndex));
+        }
+    }
+    // six digits of place and of count, and one more
+    let most = (1 << 24) - 1;
+    let mut line = [0; 22];
+    assert_eq!(write_line(&[0, most, most], 1, &mut line), Ok(22));
+    assert_eq!(&line, b"0200000000FFFFFFFFFFFF");
+    assert_eq!(Index::from_line("0200000000FFFFFFFFFFFF", 0).unwrap().words(), [0, most, most]);
+    for index in [[0, most + 1, 1], [0, 0, most + 1], [0, 0, 0], [1 << 32, 0, 1]] {
+        let before = line;
+        assert_eq!(write_line(&index, 1, &mut line), Err(Refusal::BadIndex));
+        assert_eq!(line, before);
     }
 }
 
@@ -295,15 +367,15 @@ fn an_index_that_owns_its_words() {
     assert!(index.fits(&MESSAGE) && !index.fits(&MESSAGE[..4]) && !index.fits(&MESSAGE[..5]));
     assert_eq!(index.pick(&MESSAGE, 1), Err(Refusal::Repeated));
     assert_eq!(index.pick(&MESSAGE[..4], 2), Err(Refusal::BadIndex));
-    assert_eq!(Index::from_line(&index.to_line()), Ok(index));
+    assert_eq!(Index::from_line(&index.to_line(), MESSAGE.len()), Ok(index));
     assert_eq!(Index::of(&MESSAGE[..5]), Err(Refusal::Truncated));
     assert_eq!(Index::of(&filled(0, LIMIT + 1)), Err(Refusal::TooLong));
-    assert_eq!(Index::of(&[]).unwrap().to_line(), "01");
+    assert_eq!(Index::of(&[]).unwrap().to_line(), "02");
     // the most fields, and the most tags
     let most = Index::of(&filled(0, LIMIT - 1)).unwrap();
-    assert_eq!(most.to_line(), "010000000000007FFF");
-    let tags = Index::of(&[4, 0].repeat(LIMIT / 2)).unwrap();
-    assert_eq!(tags.tags(), LIMIT / 2);
-    assert_eq!(tags.to_line().len(), 2 + 16 * (LIMIT / 2));
-    assert_eq!(Index::from_line(&tags.to_line()), Ok(tags));
+    assert_eq!(most.to_line(), "020000000000000007FFFF");
+    let tags = Index::of(&[4, 0].repeat(FIELDS)).unwrap();
+    assert_eq!(tags.tags(), FIELDS);
+    assert_eq!(tags.to_line().len(), 2 + 20 * FIELDS);
+    assert!(Index::from_line(&tags.to_line(), LIMIT) == Ok(tags));
 }

@@ -96,14 +96,17 @@ impl Chance {
         s
     }
 
-    /// Up to the limit and one byte over: a message again and again, good or damaged at some place.
+    /// Up to the limit and one byte over, and about 65,535 bytes: a message again and again, good or damaged at some place.
     pub fn long_slice(&mut self) -> Vec<u8> {
-        let source = self.bytes(40);
+        let about = self.one(&[65_535, 65_535, 65_535, 65_535, LIMIT]);
+        let len = if about == LIMIT { self.one(&[40, 2_000, 60_000]) } else { 40 };
+        let source = self.bytes(len);
         let count = 1 + self.below(9);
         let mut records = self.records(&source, count);
-        records.iter_mut().for_each(|record| record[0] = 0);
+        let most = self.one(&[0, 0, 1, 2]);
+        records.iter_mut().for_each(|record| record[0] = record[0].min(most)); // they rise from unit to unit
         let unit = Blob::write(&source, &records).0;
-        let len = LIMIT + 2 - self.one(&[0, 1, 2, 3, 1_000, 60_000]);
+        let len = about + 2 - self.one(&[0, 1, 2, 3, 1_000, 60_000]);
         let mut s = unit.repeat(len / unit.len());
         match self.below(4) {
             0 => s.extend(&unit[..len % unit.len()]),

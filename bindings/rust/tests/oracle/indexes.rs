@@ -1,6 +1,6 @@
 //! Indexes: made, compared, looked up through, written and read; of the message, damaged, and of another one.
 use super::*;
-use told::{expected_entries, expected_index, expected_lookup, line_of, sound, Words};
+use told::{bound, expected_entries, expected_index, expected_lookup, line_of, sound, Words, NEW, OLD};
 
 impl Against {
     /// All of it for one message.
@@ -24,7 +24,12 @@ impl Against {
             self.damaged(s, &made, index.clone(), tags);
         }
         self.line(&index, tags);
-        self.read(line_of(&made.unwrap_or_default()));
+        let mut edition = self.chance.one(&[NEW, NEW, OLD]);
+        let made = made.unwrap_or_default();
+        if sound(&made.concat(), made.len(), bound(OLD), bound(OLD) - 1).is_err() {
+            edition = NEW;
+        }
+        self.read(line_of(edition, &made), s.len());
     }
 
     fn made(&mut self, s: &[u8], made: &Result<Vec<Words>, Refusal>, words: usize) {
@@ -70,7 +75,7 @@ impl Against {
                 let at = self.chance.below(index.len());
                 let word = index[at];
                 let near = [word + 1, word.wrapping_sub(1), 0, 1, s.len() as u64, any];
-                let edge = [(1 << 16) - 1, 1 << 16, (1 << 32) - 1, 1 << 32, u64::MAX, any];
+                let edge = [1 << 16, (1 << 24) - 1, 1 << 24, (1 << 32) - 1, 1 << 32, u64::MAX];
                 index[at] = self.chance.one(&[near, edge].concat());
             }
         }
@@ -90,10 +95,16 @@ impl Against {
         self.line(&index, tags);
     }
 
+    /// A length of the message that a line stands beside: its own, at an edge of edition 01, or any.
+    fn beside(&mut self, len: usize) -> usize {
+        let any = self.chance.number() as usize;
+        self.chance.one(&[len, len, len, 65_535, 65_536, LIMIT, 0, any])
+    }
+
     /// An index as a line, and back.
     fn line(&mut self, index: &[u64], tags: usize) {
-        let line = sound(index, tags, 1 << 16, u16::MAX.into()).map(|entries| line_of(&entries));
-        let need = line.as_ref().map_or(18, Vec::len);
+        let line = sound(index, tags, bound(NEW), bound(NEW) - 1).map(|entries| line_of(NEW, &entries));
+        let need = line.as_ref().map_or(22, Vec::len);
         let mut buf = vec![0xA5; self.chance.one(&[need, need, need + 5, need - 1, 0, 1])];
         let mut expected = buf.clone();
         let answer = line.and_then(|line| {
@@ -104,15 +115,18 @@ impl Against {
         same!(self, (ours, &buf), (answer, &expected), index, tags);
         if let Ok(length) = ours {
             let mut words = vec![FILL; 3 * tags];
-            let back = (read_line(&buf[..length], &mut words), &words[..]);
-            same!(self, back, (Ok(tags), &index[..3 * tags]), index, tags);
+            let message_len = self.beside(LIMIT);
+            let back = (read_line(&buf[..length], message_len, &mut words), &words[..]);
+            same!(self, back, (Ok(tags), &index[..3 * tags]), index, tags, message_len);
         }
     }
 
-    /// A line, good and damaged, as an index, and back.
-    fn read(&mut self, mut line: Vec<u8>) {
+    /// A line, good and damaged, as an index, and back as edition 02.
+    fn read(&mut self, mut line: Vec<u8>, len: usize) {
         for _ in 0..4 {
-            let entries = expected_entries(&line);
+            let message_len = self.beside(len);
+            let entries = expected_entries(&line, message_len);
+            let back = entries.as_ref().map_or_else(|_| Vec::new(), |entries| line_of(NEW, entries));
             let need = 3 * entries.as_ref().map_or(1, Vec::len);
             let words = self.chance.one(&[need, need + 2, need.saturating_sub(1), 0]);
             let mut index = vec![FILL; words];
@@ -122,16 +136,19 @@ impl Against {
                 room.copy_from_slice(&entries.concat());
                 Ok(entries.len())
             });
-            let ours = read_line(&line, &mut index);
-            same!(self, (ours, &index), (answer, &expected), line);
+            let ours = read_line(&line, message_len, &mut index);
+            same!(self, (ours, &index), (answer, &expected), line, message_len);
             if let Ok(tags) = ours {
-                let mut back = vec![0xA5; line.len()];
-                let written = (write_line(&index, tags, &mut back), &back);
-                same!(self, written, (Ok(line.len()), &line), index);
+                let mut buf = vec![0xA5; back.len()];
+                let written = (write_line(&index, tags, &mut buf), &buf);
+                same!(self, written, (Ok(back.len()), &back), index);
             }
-            match self.chance.below(4) {
+            match self.chance.below(8) {
                 0 => line.extend(*b"FFFFFFFF00000001"),
-                1 => self.chance.damage(&mut line),
+                1 => line.extend(*b"FFFFFFFF000000000001"),
+                2 => self.chance.damage(&mut line),
+                3 => line.splice(..line.len().min(2), *b"01").for_each(drop),
+                4 => line.splice(..line.len().min(2), *b"02").for_each(drop),
                 _ => {
                     let at = self.chance.below(line.len().max(1));
                     let letter = self.chance.one(b"0123456789ABCDEFaf/:@G+ ");

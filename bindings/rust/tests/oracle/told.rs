@@ -149,19 +149,37 @@ pub fn expected_lookup(
     if count > 1 { Err(Refusal::Repeated) } else { Ok(Some(value(kind, number, length))) }
 }
 
-pub fn line_of(entries: &[Words]) -> Vec<u8> {
-    let digits = |[tag, place, count]: &Words| format!("{tag:08X}{place:04X}{count:04X}");
-    ["01".to_string()].into_iter().chain(entries.iter().map(digits)).collect::<String>().into()
+/// A line of an edition: its number, and its digits of a place and of a count.
+pub type Edition = (&'static str, usize);
+pub const OLD: Edition = ("01", 4);
+pub const NEW: Edition = ("02", 6);
+
+pub fn line_of((name, width): Edition, entries: &[Words]) -> Vec<u8> {
+    let digits =
+        |[tag, place, count]: &Words| format!("{tag:08X}{place:0width$X}{count:0width$X}");
+    [name.to_string()].into_iter().chain(entries.iter().map(digits)).collect::<String>().into()
 }
 
-/// The entries of a line: those that are written as this very line, if there are such.
-pub fn expected_entries(line: &[u8]) -> Result<Vec<Words>, Refusal> {
+/// Places and counts that have a line of an edition lie below this.
+pub fn bound((_, width): Edition) -> u64 {
+    1 << (4 * width)
+}
+
+/// The entries of a line beside a message of a length: those that are written as this very line, if there are such.
+pub fn expected_entries(line: &[u8], message_len: usize) -> Result<Vec<Words>, Refusal> {
+    let edition = match line.get(..2) {
+        Some(b"01") if message_len <= 65_535 => OLD,
+        Some(b"02") => NEW,
+        _ => return Err(Refusal::BadIndex),
+    };
     let number = |digits: &[u8]| {
         std::str::from_utf8(digits).ok().and_then(|text| u64::from_str_radix(text, 16).ok())
     };
-    let entry = |row: &[u8]| Some([number(&row[..8])?, number(&row[8..12])?, number(&row[12..])?]);
-    let rows = line.get(2..).unwrap_or_default().chunks_exact(16);
+    let behind = 8 + edition.1;
+    let entry =
+        |row: &[u8]| Some([number(&row[..8])?, number(&row[8..behind])?, number(&row[behind..])?]);
+    let rows = line[2..].chunks_exact(behind + edition.1);
     let entries: Vec<Words> = rows.map(entry).collect::<Option<_>>().ok_or(Refusal::BadIndex)?;
-    let entries = sound(&entries.concat(), entries.len(), 1 << 16, u64::MAX)?;
-    (line_of(&entries) == line).then_some(entries).ok_or(Refusal::BadIndex)
+    let entries = sound(&entries.concat(), entries.len(), bound(edition), u64::MAX)?;
+    (line_of(edition, &entries) == line).then_some(entries).ok_or(Refusal::BadIndex)
 }
