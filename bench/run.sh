@@ -1,5 +1,5 @@
 #!/bin/sh
-# Ours and its peers in one run and one table: nanoseconds and instructions, a message and a field.
+# Ours and its peers in one run and one table: nanoseconds and instructions, a message, a field and a byte.
 #
 #   run.sh [LOAD..]     default: all loads (README.md)
 #   ROUNDS=25   samples of a job in each of four layouts; 0: no times        COUNTS=0   no instructions

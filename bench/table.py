@@ -48,16 +48,29 @@ def main(loads, times, counts):
     def over(numbers, others):
         return lambda key: numbers[key] / others(key) if key in numbers and others(key) else None
 
+    def longer(numbers):
+        """Of a load with a + behind its name: its cost a byte over that of the one without."""
+        a_byte = over(numbers, length)
+
+        def cell(key):
+            other = (*key[:2], key[2][:-1])
+            return a_byte(key) / a_byte(other) if key[2].endswith("+") and key in numbers and other in numbers else None
+        return cell
+
     line("load", shown)
     for i, title in enumerate(("bytes", "protobuf bytes", "fields")):
         line(title, (f"{size[name][i]:.0f}" for name in shown))
     fields = lambda key: size[key[2]][2]
+    length = lambda key: size[key[2]][key[1].startswith("pb-")]
     ours = lambda kind, peer: peer == OURS
     for what, numbers, digits in (("nanoseconds", best, 2), ("instructions", count, 1)):
         if not numbers:
             continue
         part(f"{what} a message", numbers.get, whole)
         part(f"{what} a field", over(numbers, fields), lambda _: digits)
+        part(f"{what} a byte", over(numbers, length), lambda _: 3)
+        part(f"{what} a byte: a load of 1 MB over the same kind of 64 KB", longer(numbers), lambda _: 2,
+             lambda kind, peer: peer in (OURS, *SAME) or kind == "floor")
         for same in SAME:
             part(f"{what}: ours over the same job by {same}",
                  over(numbers, lambda key: numbers.get((key[0], same, key[2]))), lambda _: 2, ours)

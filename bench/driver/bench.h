@@ -10,7 +10,7 @@ extern "C" {
 #define REFUSED UINT64_MAX
 #define NOT_DONE (UINT64_MAX - 1) /* the peer has no such job for this load */
 #define SLACK 64                  /* bytes that may be touched behind a load and a buffer, for peers that look ahead */
-#define MESSAGE_LIMIT 65535
+#define MESSAGE_LIMIT 1048575
 #define RECORD 4 /* words a record: tag, type, value or payload's start, length */
 #define ENTRY 3  /* words an index's entry: tag, place of its first key, number of its fields */
 #define LEVEL 5  /* words a level: pressure; temperature and depression, each 1 and the number, or 0 and all ones */

@@ -4,7 +4,7 @@
 #include <stdlib.h>
 #include <string.h>
 
-static uint64_t state; /* splitmix64 */
+static uint64_t state, first; /* splitmix64, and the seed of the load that is made */
 static uint64_t next(void) {
     uint64_t z = (state += 0x9E3779B97F4A7C15u);
     z = (z ^ (z >> 30)) * 0xBF58476D1CE4E5B9u;
@@ -105,6 +105,10 @@ static uint64_t mixed(void) {
     uint64_t k = below(100);
     return of_len(k < 80 ? 1 : k < 95 ? 2 + below(2) : 4 + below(6));
 }
+/* The bytes of most loads, and levels. A longer one has the same fields again and again, so that nothing but its length is
+ * another. */
+#define SHORT 65535
+#define SHORT_LEVELS 4000
 static uint32_t rise(const Msg *m) { return m->n == 0 ? 1 : below(16) == 0; } /* mostly repeated tags */
 
 #define STATION 11035
@@ -124,6 +128,7 @@ static Msg sounding_of(size_t levels, int shape) {
     varint(&m, 1, LAUNCH);
     for (size_t i = 0; i < levels; i++, words += LEVEL) {
         Msg level = {0};
+        if (i % SHORT_LEVELS == 0) state = first;
         varint(&level, 1, words[0] = 101325 - 830 * (i % 120) - below(100));
         measured(&level, 2, gaps ? 6 : 20, 1200, gaps, words + 1);
         measured(&level, 3, gaps ? 4 : 8, 600, gaps, words + 3);
@@ -134,75 +139,78 @@ static Msg sounding_of(size_t levels, int shape) {
     }
     return m;
 }
+static Msg sounding(size_t levels) { return sounding_of(levels, PLAIN); }
+static Msg with_gaps(size_t levels) { return sounding_of(levels, GAPS); }
+static Msg of_five_tags(size_t levels) { return sounding_of(levels, FIVE); }
 /* Levels, and behind them the one field of the highest tag. */
 static Msg behind_levels(Msg m) {
     varint(&m, 9, 300);
     m.levels = 0;
     return m;
 }
-static Msg behind_2000(void) { return behind_levels(sounding_of(2000, FOUR)); }
-static Msg behind_4000(void) { return behind_levels(sounding_of(4000, FOUR)); }
-/* Of levels with their pressure alone, twice as many are below the limit. */
-static Msg behind_8000(void) {
+static Msg behind_of_four(size_t levels) { return behind_levels(sounding_of(levels, FOUR)); }
+static Msg behind_of_one(size_t levels) {
     Msg m = {0};
     varint(&m, 1, STATION);
     varint(&m, 1, LAUNCH);
-    for (size_t i = 0; i < 8000; i++) {
+    for (size_t i = 0; i < levels; i++) {
         Msg level = {0};
         varint(&level, 1, 101325 - 830 * (i % 100) - below(100));
         payload(&m, i == 0, &level.bil, &level.pb);
     }
     return behind_levels(m);
 }
-static Msg sounding(void) { return sounding_of(120, PLAIN); }
-static Msg with_gaps(void) { return sounding_of(120, GAPS); }
-static Msg of_five_tags(void) { return sounding_of(120, FIVE); }
-static Msg long_sounding(void) { return sounding_of(4000, PLAIN); }
-static Msg one_byte_varints(void) {
+static Msg one_byte_varints(size_t most) {
     Msg m = {0};
-    while (m.bil.n + 12 <= MESSAGE_LIMIT) varint(&m, rise(&m), of_len(1));
-    while (m.bil.n + 2 <= MESSAGE_LIMIT) varint(&m, 0, 7);
+    for (size_t from = 0; m.bil.n + 12 <= most; varint(&m, rise(&m), of_len(1)))
+        if (m.bil.n - from + 12 > SHORT) from = m.bil.n, state = first;
+    while (m.bil.n + 2 <= most) varint(&m, 0, 7);
     return m;
 }
-static Msg mixed_varints(void) {
+static Msg mixed_varints(size_t most) {
     Msg m = {0};
-    while (m.bil.n + 12 <= MESSAGE_LIMIT) varint(&m, rise(&m), mixed());
+    while (m.bil.n + 12 <= most) varint(&m, rise(&m), mixed());
     varint(&m, 0, 300); /* two bytes, so that a cut falls into the last value */
     return m;
 }
-static Msg payloads(void) {
+static Msg payloads(size_t count) {
     Msg m = {0};
-    for (int i = 0; i < 60; i++) random_payload(&m, i % 4 == 0, 1024);
+    for (size_t i = 0; i < count; i++) random_payload(&m, i % 4 == 0, 1024);
     return m;
 }
-static Msg fixed_values(void) {
+static Msg fixed_values(size_t most) {
     Msg m = {0};
-    for (int i = 0; m.bil.n + 9 <= MESSAGE_LIMIT; i++) fixed(&m, rise(&m), i % 2 ? 8 : 4, next());
+    for (int i = 0; m.bil.n + 9 <= most; i++) fixed(&m, rise(&m), i % 2 ? 8 : 4, next());
     return m;
 }
-static Msg all_types(void) {
+static Msg all_types(size_t most) {
     Msg m = {0};
-    while (m.bil.n + 40 <= MESSAGE_LIMIT) switch (below(4)) {
+    for (size_t from = 0; m.bil.n + 40 <= most;) {
+        if (m.bil.n - from + 40 > SHORT) from = m.bil.n, state = first;
+        switch (below(4)) {
         case 0: varint(&m, rise(&m), mixed()); break;
         case 1: random_payload(&m, rise(&m), below(32)); break;
         case 2: fixed(&m, rise(&m), 4, next()); break;
         default: fixed(&m, rise(&m), 8, next());
         }
+    }
     return m;
 }
-static Msg tiny(void) {
+static Msg tiny(size_t last) {
     Msg m = {0};
     varint(&m, 1, 7);
     varint(&m, 1, 100000);
     random_payload(&m, 1, 4);
     fixed(&m, 1, 4, next());
-    varint(&m, 1, 1);
+    varint(&m, 1, last);
     return m;
 }
 
-static Load load(const char *name, uint64_t seed, Msg make(void), int good, int deep) {
-    state = seed;
-    Msg m = make();
+/* `size`: levels, payloads, or bytes at most. */
+static Load load(const char *name, uint64_t seed, Msg make(size_t), size_t size, int good, int deep) {
+    state = first = seed;
+    Msg m = make(size);
+    if (m.bil.n > MESSAGE_LIMIT) abort();
     Load l = {.name = name, .good = good, .deep = deep, .fields = m.n, .all_fields = m.n + (deep ? m.inner : 0),
               .sounding = m.levels > 0, .station = STATION, .launch = LAUNCH, .levels = m.levels, .number = 60,
               .words = m.words, .records = m.rec, .index = m.index, .tags = m.tags, .asked = m.tag,
@@ -214,11 +222,25 @@ static Load load(const char *name, uint64_t seed, Msg make(void), int good, int 
 
 size_t make_loads(Load *out) {
     const Load all[] = {
-        load("S", 1, sounding, 1, 0),         load("SN", 1, sounding, 1, 1),     load("V1", 2, one_byte_varints, 1, 0),
-        load("VM", 3, mixed_varints, 1, 0),   load("P", 4, payloads, 1, 0),      load("F", 5, fixed_values, 1, 0),
-        load("X", 6, all_types, 1, 0),        load("T", 7, tiny, 1, 0),          load("B", 3, mixed_varints, 0, 0),
-        load("SL", 1, long_sounding, 1, 0),   load("SG", 8, with_gaps, 1, 0),    load("S5", 9, of_five_tags, 1, 0),
-        load("I2", 1, behind_2000, 1, 0),     load("I4", 1, behind_4000, 1, 0),  load("I8", 1, behind_8000, 1, 0),
+        load("S", 1, sounding, 120, 1, 0),
+        load("SN", 1, sounding, 120, 1, 1),
+        load("V1", 2, one_byte_varints, SHORT, 1, 0),
+        load("V1+", 2, one_byte_varints, MESSAGE_LIMIT, 1, 0),
+        load("VM", 3, mixed_varints, SHORT, 1, 0),
+        load("P", 4, payloads, 60, 1, 0),
+        load("P+", 4, payloads, 1020, 1, 0),
+        load("F", 5, fixed_values, SHORT, 1, 0),
+        load("X", 6, all_types, SHORT, 1, 0),
+        load("X+", 6, all_types, MESSAGE_LIMIT, 1, 0),
+        load("T", 7, tiny, 1, 1, 0),
+        load("B", 3, mixed_varints, SHORT, 0, 0),
+        load("SL", 1, sounding, 4000, 1, 0),
+        load("SL+", 1, sounding, 80000, 1, 0),
+        load("SG", 8, with_gaps, 120, 1, 0),
+        load("S5", 9, of_five_tags, 120, 1, 0),
+        load("I2", 1, behind_of_four, 2000, 1, 0),
+        load("I4", 1, behind_of_four, 4000, 1, 0),
+        load("I8", 1, behind_of_one, 8000, 1, 0),
     };
     memcpy(out, all, sizeof all);
     return sizeof all / sizeof *all;

@@ -1,7 +1,8 @@
 /* bench check            every job once on every load, answers compared; then broken soundings
  * bench loads            the loads
  * bench time [LOAD..]    best and median nanoseconds a message, a line for each job and load
- * bench count [LOAD..]   the calls between count_begin and count_end, which run.sh has counted; a line for each */
+ * bench count [LOAD..]   the calls between count_begin and count_end, which run.sh has counted; a line for each
+ * All but loads check the loads that they are about first. */
 #include "loads.h"
 #include <stdio.h>
 #include <stdlib.h>
@@ -101,7 +102,10 @@ static void check(size_t a, size_t b) {
     else if (on_sounding(j) || j->kind == INDEXED) check_found(j, l, &works[a][b]);
     else if (j->kind != FLOOR) check_written(j, l, &works[a][b], got);
 }
-static void release(Work *w) { free(w->table), free(w->inner), free(w->out); }
+static void release(Work *w) {
+    free(w->table), free(w->inner), free(w->out);
+    w->table = w->inner = 0, w->out = 0;
+}
 /* Peers that keep the rules, on a broken sounding and an index that may be another's: one refusal or one answer; the words
  * behind it stay. */
 static void check_broken(uint64_t seed, uint64_t met[FLOOR][16]) {
@@ -153,7 +157,7 @@ static void repeat(size_t a, size_t b, long reps) {
     for (long i = 0; i < reps; i++) sink = jobs[a].run(&loads[b], &works[a][b]);
 }
 static void count(size_t a, size_t b) {
-    long reps = loads[b].len < 100 ? 50 : 4;
+    long reps = loads[b].len < 100 ? 50 : loads[b].len < 100000 ? 4 : 1;
     repeat(a, b, 1);
     count_begin();
     repeat(a, b, reps);
@@ -174,9 +178,9 @@ static int by_size(const void *a, const void *b) {
 /* Rounds over all jobs of a load, so that a busy moment falls on all alike; samples of 1.5 ms. */
 static void time_load(size_t b, int rounds) {
     static double got[MAX_JOBS][MAX_ROUNDS];
-    long reps[MAX_JOBS];
+    long reps[MAX_JOBS], first = loads[b].len < 100000 ? 20 : 2;
     for (size_t a = 0; a < job_count; a++)
-        if (active[a][b]) sample(a, b, 20), reps[a] = 1.5e6 / (sample(a, b, 20) + 0.5) + 1;
+        if (active[a][b]) sample(a, b, first), reps[a] = 1.5e6 / (sample(a, b, first) + 0.5) + 1;
     for (int r = 0; r < rounds; r++)
         for (size_t a = 0; a < job_count; a++)
             if (active[a][b]) got[a][r] = sample(a, b, reps[a]);
@@ -199,15 +203,18 @@ int main(int argc, char **argv) {
     int rounds = getenv("ROUNDS") ? atoi(getenv("ROUNDS")) : 25;
     if (rounds > MAX_ROUNDS) rounds = MAX_ROUNDS;
     load_count = make_loads(loads);
-    for (size_t a = 0; a < job_count; a++)
-        for (size_t b = 0; b < load_count; b++) check(a, b);
     for (size_t b = 0; b < load_count; b++) {
         const Load *l = &loads[b];
         if (!wanted(l->name, argc, argv)) continue;
-        if (!strcmp(what, "loads")) printf("%s %zu %zu %zu\n", l->name, l->len, l->pb_len, l->all_fields);
+        if (!strcmp(what, "loads")) {
+            printf("%s %zu %zu %zu\n", l->name, l->len, l->pb_len, l->all_fields);
+            continue;
+        }
+        for (size_t a = 0; a < job_count; a++) check(a, b);
         if (!strcmp(what, "time")) time_load(b, rounds);
         for (size_t a = 0; !strcmp(what, "count") && a < job_count; a++)
             if (active[a][b]) count(a, b);
+        for (size_t a = 0; a < job_count; a++) release(&works[a][b]);
     }
     if (!strcmp(what, "check")) check_all_broken();
     if (!strcmp(what, "check")) fprintf(stderr, "bench: %zu jobs agree on %zu loads\n", job_count, load_count);
