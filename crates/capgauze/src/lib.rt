@@ -70,7 +70,6 @@ pub use entry_reader::take_step;
 // ---- tables written
 pub use entry_copy::copy_message;
 pub use entry_write::encode_message;
-pub use entry_write::encoded_len_message;
 pub use entry_write::insert;
 pub use entry_write::prepend_message;
 

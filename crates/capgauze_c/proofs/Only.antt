@@ -49,8 +49,6 @@ use Rattle.capgauze_c.proofs.capgauze_encode_message.Kinds as encode-me
 use Rattle.capgauze_c.proofs.capgauze_encode_message.Reads as encode-message-reads
 use Rattle.capgauze_c.proofs.capgauze_prepend_message.Kinds as prepend-message
 use Rattle.capgauze_c.proofs.capgauze_prepend_message.Reads as prepend-message-reads
-use Rattle.capgauze_c.proofs.capgauze_encoded_len_message.Kinds as encoded-len-message
-use Rattle.capgauze_c.proofs.capgauze_encoded_len_message.Reads as encoded-len-message-reads
 use Rattle.capgauze_c.proofs.capgauze_insert.Kinds as insert
 use Rattle.capgauze_c.proofs.capgauze_insert.Reads as insert-reads
 use Rattle.capgauze_c.proofs.capgauze_read_sounding.Kinds as read-sounding
@@ -139,9 +137,6 @@ encode-message-one κs a x y s t p q = p ∙ sym q
 pub prepend-message-one : One 3 prepend-message.ps prepend-message.r prepend-message-reads.Post {S = Lent told.Wrote}
     (λ κs r s. record { told = asWritten r; lent = now (s .1 .1 .1 .0) })
 prepend-message-one κs a x y s t p q = p ∙ sym q
-
-pub encoded-len-message-one : One 2 encoded-len-message.ps encoded-len-message.r encoded-len-message-reads.Post (λ κs r s. asWritten r)
-encoded-len-message-one κs a x y s t p q = p ∙ sym q
 
 pub insert-one : One 2 insert.ps insert.r insert-reads.Post {S = Lent told.Number} (λ κs r s. record { told = asNumber r; lent = now (s .1 .0) })
 insert-one κs a x y s t p q = p ∙ sym q

@@ -8,7 +8,7 @@ ghost use Rattle.wire.specs.Signed.{toUnsigned, toSigned};
 ghost use Rattle.message_payload.specs.Payload.{spanOf};
 ghost use Rattle.entry_answer.specs.Told.{putTold, varintTold, readTold, pickedTold, severalTold, earlyTold, keyLenTold, keyTold, valueTold};
 ghost use Rattle.entry_answer.specs.Told.{skippedTold, stepTold, writtenTold, insertedTold};
-ghost use Rattle.entry_write.specs.Writers.{encodeMessage, prependMessage, encodedLen, insertRecord};
+ghost use Rattle.entry_write.specs.Writers.{encodeMessage, prependMessage, insertRecord};
 ghost use Rattle.entry_key.specs.Keys.{decodeKey, keyAtFront, keyAtEnd, keyLen};
 ghost use Rattle.entry_field.specs.Fields.{decodeValue, skipField, stepEntry};
 ghost use Rattle.entry_varint.specs.Varints.{decodeVarint, decodeVarintCapped};
@@ -297,18 +297,6 @@ pub extern "C" fn capgauze_prepend_message(
         ⌝ }
 {
     c_words::written_words(capgauze::prepend_message(source, table, count, buf))
-}
-
-// How long that message is.
-#[no_mangle]
-pub extern "C" fn capgauze_encoded_len_message(
-    source: &[u8],
-    table: &[u64],
-    count: usize,
-) -> WrittenWords
-    ensures { λ r. ⌜ asWritten r ≡ writtenTold (encodedLen (now (source .entry)) (now (table .entry)) count) ⌝ }
-{
-    c_words::written_words(capgauze::encoded_len_message(source, table, count))
 }
 
 // A new record behind all of an equal or lower tag.

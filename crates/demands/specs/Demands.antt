@@ -26,13 +26,13 @@ pub use Rattle.demands.specs.Verdicts.{decode-varint-number, decode-vari
 pub use Rattle.demands.specs.Verdicts.{skip-field-number, step-at-number, more-at-number, has-more-number, take-step-number}
 pub use Rattle.demands.specs.Verdicts.{step-through-number, count-fields-number, read-message-number, read-payload-number, pick-at-number}
 pub use Rattle.demands.specs.Verdicts.{pick-number, pick-early-number, copy-message-number, encode-varint-number, prepend-varint-number}
-pub use Rattle.demands.specs.Verdicts.{encode-key-number, prepend-key-number, key-len-number, encoded-len-message-number, encode-message-number}
+pub use Rattle.demands.specs.Verdicts.{encode-key-number, prepend-key-number, key-len-number, encode-message-number}
 pub use Rattle.demands.specs.Verdicts.{prepend-message-number, insert-number}
 pub use Rattle.demands.specs.VerdictsC.{c-decode-varint-number, c-decode-varint-capped-number, c-encode-varint-number, c-prepend-varint-number}
 pub use Rattle.demands.specs.VerdictsC.{c-decode-key-number, c-encode-key-number, c-prepend-key-number, c-key-len-number, c-decode-value-number}
 pub use Rattle.demands.specs.VerdictsC.{c-skip-field-number, c-step-at-number, c-read-message-number, c-read-payload-number, c-pick-number}
 pub use Rattle.demands.specs.VerdictsC.{c-pick-at-number, c-pick-early-number, c-encode-message-number, c-prepend-message-number}
-pub use Rattle.demands.specs.VerdictsC.{c-encoded-len-message-number, c-insert-number, c-read-sounding-number}
+pub use Rattle.demands.specs.VerdictsC.{c-insert-number, c-read-sounding-number}
 pub use Rattle.demands.specs.SoundingVerdict.{read-sounding-number}
 pub use Rattle.demands.specs.IndexVerdict.{make-index-number, pick-indexed-number, write-line-number, read-line-number}
 pub use Rattle.demands.specs.IndexVerdict.{c-make-index-number, c-pick-indexed-number, c-write-line-number, c-read-line-number}
@@ -45,6 +45,8 @@ pub use Rattle.demands.specs.Writing.{encode-writes, prepend-writes}
 -- what is measured is what is put; the signed mapping and back; the table of limits
 pub use Rattle.demands.specs.Lengths.{encode-varint-measured, prepend-varint-measured, encode-key-measured, prepend-key-measured, signed-back}
 pub use Rattle.demands.specs.Lengths.{unsigned-back, table-limits}
+-- a buffer that is too short is told the length that is needed: it is enough for either writer, and nothing less is; both tell the same; no buffer measures
+pub use Rattle.demands.specs.Needed.{Encodes, Prepends, Both, Enough, Sizes, needed-is-enough, needed-both, no-buffer-measures, only-no-room-tells}
 -- an insertion puts the new field behind all of an equal or lower tag, and a good table stays good
 pub use Rattle.demands.specs.Inserting.{Inserting, fields, good-again}
 -- a lookup that stops early answers as the full one does wherever that does not refuse

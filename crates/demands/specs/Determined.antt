@@ -46,7 +46,6 @@ pub use Rattle.write_record.proofs.Only.{record-at-one as record-record-at-one}
 pub use Rattle.write_record.proofs.Only.{weigh-record-one as record-weigh-record-one}
 -- tables written
 pub use Rattle.write_message.proofs.Only.{weigh-one as writer-weigh-one}
-pub use Rattle.write_message.proofs.Only.{measure-one as writer-measure-one}
 pub use Rattle.write_message.proofs.Only.{write-front-one as writer-write-front-one}
 pub use Rattle.write_message.proofs.Only.{write-back-one as writer-write-back-one}
 -- a record put among others
@@ -76,7 +75,6 @@ pub use Rattle.entry_message.proofs.Only.{pick-one}
 pub use Rattle.entry_message.proofs.Only.{pick-early-one}
 pub use Rattle.entry_write.proofs.Only.{encode-message-one}
 pub use Rattle.entry_write.proofs.Only.{prepend-message-one}
-pub use Rattle.entry_write.proofs.Only.{encoded-len-message-one}
 pub use Rattle.entry_write.proofs.Only.{insert-one}
 -- the reader that holds a message; of its first three, over the predicates that their contracts cite
 pub use Rattle.entry_reader.proofs.Only.{make-one as reader-make-one}
@@ -157,7 +155,6 @@ pub use Rattle.capgauze_c.proofs.Only.{write-line-one as c-write-line-one}
 pub use Rattle.capgauze_c.proofs.Only.{read-line-one as c-read-line-one}
 pub use Rattle.capgauze_c.proofs.Only.{encode-message-one as c-encode-message-one}
 pub use Rattle.capgauze_c.proofs.Only.{prepend-message-one as c-prepend-message-one}
-pub use Rattle.capgauze_c.proofs.Only.{encoded-len-message-one as c-encoded-len-message-one}
 pub use Rattle.capgauze_c.proofs.Only.{insert-one as c-insert-one}
 pub use Rattle.capgauze_c.proofs.Only.{read-sounding-one as c-read-sounding-one}
 pub use Rattle.stream_orders.proofs.Only.{argument-of-one as stream-argument-of-one}

@@ -18,7 +18,7 @@ use Rattle.wire.specs.Skipping.{skipAt}
 use Rattle.wire.specs.Table.{room, good}
 use Rattle.write_record.specs.Records.{Verdict, AllFine, First, checked}
 use Rattle.write_record.specs.Records as records
-use Rattle.write_message.specs.Writing.{passed, plan, measured, Writing, into, front, back}
+use Rattle.write_message.specs.Writing.{passed, plan, Writing, into, front, back}
 use Rattle.write_insertion.specs.Insertion.{aimed, aim, inserts}
 use Rattle.wire.specs.declared.Refusal.{Refusal}
 use Rattle.wire.specs.declared.Refusal.the-variants.{Truncated, TooLong, NoRoom, OutOfOrder, Repeated}
@@ -72,7 +72,7 @@ use Rattle.demands.specs.Rules.{outputRule, newRules}
 use Rattle.demands.specs.Rules.{decodeVarintOrder, decodeVarintCappedOrder, decodeKeyOrder, decodeValueOrder, skipFieldOrder, stepAtOrder, moreAtOrder}
 use Rattle.demands.specs.Rules.{readMessageOrder, readPayloadOrder, countFieldsOrder, copyMessageOrder, fieldsIn, earlyRules, earlyRead, repeatedRules}
 use Rattle.demands.specs.Rules.{pickOrder, pickAtOrder, pickEarlyOrder}
-use Rattle.demands.specs.Rules.{putVarintOrder, putKeyOrder, keyLenOrder, measureOrder, writeOrder, insertOrder}
+use Rattle.demands.specs.Rules.{putVarintOrder, putKeyOrder, keyLenOrder, writeOrder, insertOrder}
 use Rattle.demands.specs.RulesLaws.{above, behind, varintNumber, keyNumber, valueNumber, stepNumber, messageNumber, reachedNumber, verdictNumber}
 use Rattle.demands.specs.RulesLaws.{varint-told, capped-told, key-told, value-told, step-told, message-told, fields-read, stopNumber, Seen, stop-told}
 use Rattle.demands.specs.RulesLaws.{stop-seen, skip-told, order-t}
@@ -330,19 +330,6 @@ module _ (s t : List ℕ) (c : ℕ) where
   -- what is to be written
   abbrev bytes : List ℕ
   bytes = records.message s t c
-
-  pub measure-order : writtenTold (measured (plan messageLimit s t c)) .number ≡ firstOf (measureOrder s t c)
-  unfolding measured plan
-  measure-order = go (checked messageLimit s t c) ∙ order-t s t c _ (outputRule s t c ∷ []) refl
-    where
-      go : (v : Verdict) → writtenTold (measured (passed messageLimit bytes v)) .number ≡ orElse (verdictNumber v) (firstOf (outputRule s t c ∷ []))
-      go (First r i) = sym (refused-first r _)
-      go AllFine = short (leb (length bytes) messageLimit) refl
-        where
-          short : (b : Bool) → leb (length bytes) messageLimit ≡ b
-              → writtenTold (measured (passed messageLimit bytes AllFine)) .number ≡ firstOf (outputRule s t c ∷ [])
-          short true b = rw (above (length bytes) messageLimit, b)
-          short false b = rw (above (length bytes) messageLimit, b)
 
   module _ (b : List ℕ) (done : List ℕ → Writing) (sure : (bs : List ℕ) → writtenTold (done bs .answer) .number ≡ 0) where
     write-told : writtenTold (into b (plan messageLimit s t c) done .answer) .number ≡ firstOf (writeOrder s t c b)

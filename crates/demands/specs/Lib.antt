@@ -4,6 +4,7 @@ pub mod Reading
 pub mod Writing
 pub mod Inserting
 pub mod Lengths
+pub mod Needed
 pub mod Refusals
 pub mod Cores
 pub mod Order

@@ -244,10 +244,7 @@ putKeyOrder last tag w b = when (ltb tag last) OutOfOrder ∷ roomRules b (keyBy
 abbrev pub keyLenOrder : ℕ → ℕ → List Rule
 keyLenOrder last tag = when (ltb tag last) OutOfOrder ∷ []
 
--- Rule R6: a message measured; written at either end of a buffer, 5 last
-abbrev pub measureOrder : List ℕ → List ℕ → ℕ → List Rule
-measureOrder s t c = orderT s t c (outputRule s t c ∷ [])
-
+-- Rule R6: a message written at either end of a buffer: 5 last
 abbrev pub writeOrder : List ℕ → List ℕ → ℕ → List ℕ → List Rule
 writeOrder s t c b = orderT s t c (outputRule s t c ∷ roomRules b (records.message s t c))
 

@@ -19,14 +19,14 @@ use Rattle.entry_copy.specs.Copy.{Copying, copiedTold}
 use Rattle.demands.specs.Order.{Rule, firstOf, Ordered, Numbered, ordered}
 use Rattle.demands.specs.Rules.{decodeVarintOrder, decodeVarintCappedOrder, decodeKeyOrder, decodeValueOrder, skipFieldOrder, stepAtOrder, moreAtOrder}
 use Rattle.demands.specs.Rules.{readMessageOrder, readPayloadOrder, countFieldsOrder, copyMessageOrder, pickOrder, pickAtOrder, pickEarlyOrder}
-use Rattle.demands.specs.Rules.{putVarintOrder, putKeyOrder, keyLenOrder, measureOrder, writeOrder, insertOrder}
+use Rattle.demands.specs.Rules.{putVarintOrder, putKeyOrder, keyLenOrder, writeOrder, insertOrder}
 pub use Rattle.demands.specs.Entries.{order-r}
 use Rattle.demands.specs.Entries.{decode-varint-order, decode-varint-capped-order, decode-key-order, decode-value-order, skip-field-order}
 use Rattle.demands.specs.Entries.{step-at-order, more-at-order}
 use Rattle.demands.specs.Entries.{read-message-order, read-payload-order, count-fields-order, pick-at-order, pick-order, pick-early-order}
 use Rattle.demands.specs.Entries.{copy-message-order}
 use Rattle.demands.specs.Entries.{storedNumber, encode-varint-order, prepend-varint-order, encode-key-order, prepend-key-order, key-len-order}
-use Rattle.demands.specs.Entries.{measure-order, encode-message-order, prepend-message-order, insert-order}
+use Rattle.demands.specs.Entries.{encode-message-order, prepend-message-order, insert-order}
 use Rattle.entry_varint.proofs.decode_varint.Kinds as decode-varint
 use Rattle.entry_varint.proofs.decode_varint.Reads as decode-varint-reads
 use Rattle.entry_varint.proofs.decode_varint_capped.Kinds as decode-varint-capped
@@ -61,8 +61,6 @@ use Rattle.entry_key.proofs.prepend_key.Kinds as prepend-key
 use Rattle.entry_key.proofs.prepend_key.Reads as prepend-key-reads
 use Rattle.entry_key.proofs.key_len.Kinds as key-len
 use Rattle.entry_key.proofs.key_len.Reads as key-len-reads
-use Rattle.entry_write.proofs.encoded_len_message.Kinds as encoded-len-message
-use Rattle.entry_write.proofs.encoded_len_message.Reads as encoded-len-message-reads
 use Rattle.entry_write.proofs.encode_message.Kinds as encode-message
 use Rattle.entry_write.proofs.encode_message.Reads as encode-message-reads
 use Rattle.entry_write.proofs.prepend_message.Kinds as prepend-message
@@ -174,11 +172,7 @@ prepend-key-number κs a x s p = by-order storedNumber p (prepend-key-order (a .
 pub key-len-number : Numbered 0 key-len.ps key-len.r key-len-reads.Post (λ κs x. keyLenTold x .number) (λ κs a. keyLenOrder (a .0) (a .1 .0))
 key-len-number κs a x s p = by-order (λ y. keyLenTold y .number) p (key-len-order (a .0) (a .1 .0))
 
--- ---- records written, measured, inserted
-
-pub encoded-len-message-number : Numbered 2 encoded-len-message.ps encoded-len-message.r encoded-len-message-reads.Post (λ κs x. writtenTold x .number)
-    (λ κs a. measureOrder (now (a .0)) (now (a .1 .0)) (a .1 .1 .0))
-encoded-len-message-number κs a x s p = by-order (λ y. writtenTold y .number) p (measure-order (now (a .0)) (now (a .1 .0)) (a .1 .1 .0))
+-- ---- records written, inserted
 
 pub encode-message-number : Numbered 3 encode-message.ps encode-message.r encode-message-reads.Post (λ κs x. writtenTold x .number)
     (λ κs a. writeOrder (now (a .0)) (now (a .1 .0)) (a .1 .1 .0) (now (a .1 .1 .1 .0)))

@@ -25,11 +25,11 @@ use Rattle.demands.specs.Calls.{fourWords}
 use Rattle.demands.specs.Order.{Rule, firstOf, Ordered, Numbered}
 use Rattle.demands.specs.Rules.{decodeVarintOrder, decodeVarintCappedOrder, decodeKeyOrder, decodeValueOrder, skipFieldOrder, stepAtOrder}
 use Rattle.demands.specs.Rules.{readMessageOrder, readPayloadOrder, pickOrder, pickAtOrder, pickEarlyOrder}
-use Rattle.demands.specs.Rules.{putVarintOrder, putKeyOrder, keyLenOrder, measureOrder, writeOrder, insertOrder, typedOrder}
+use Rattle.demands.specs.Rules.{putVarintOrder, putKeyOrder, keyLenOrder, writeOrder, insertOrder, typedOrder}
 use Rattle.demands.specs.Entries.{decode-varint-order, decode-varint-capped-order, decode-key-order, decode-value-order, skip-field-order, step-at-order}
 use Rattle.demands.specs.Entries.{read-message-order, read-payload-order, pick-at-order, pick-order, pick-early-order}
 use Rattle.demands.specs.Entries.{encode-varint-order, prepend-varint-order, encode-key-order, prepend-key-order, key-len-order}
-use Rattle.demands.specs.Entries.{measure-order, encode-message-order, prepend-message-order, insert-order}
+use Rattle.demands.specs.Entries.{encode-message-order, prepend-message-order, insert-order}
 use Rattle.demands.specs.Verdicts.{by-order}
 use Rattle.demands.specs.SoundingRules.{readSoundingOrder}
 use Rattle.demands.specs.SoundingVerdict.{read-sounding-number}
@@ -69,8 +69,6 @@ use Rattle.capgauze_c.proofs.capgauze_encode_message.Kinds as encode-message
 use Rattle.capgauze_c.proofs.capgauze_encode_message.Reads as encode-message-reads
 use Rattle.capgauze_c.proofs.capgauze_prepend_message.Kinds as prepend-message
 use Rattle.capgauze_c.proofs.capgauze_prepend_message.Reads as prepend-message-reads
-use Rattle.capgauze_c.proofs.capgauze_encoded_len_message.Kinds as encoded-len-message
-use Rattle.capgauze_c.proofs.capgauze_encoded_len_message.Reads as encoded-len-message-reads
 use Rattle.capgauze_c.proofs.capgauze_insert.Kinds as insert
 use Rattle.capgauze_c.proofs.capgauze_insert.Reads as insert-reads
 use Rattle.capgauze_c.proofs.capgauze_read_sounding.Kinds as read-sounding
@@ -184,7 +182,7 @@ c-pick-at-number κs a x s p = by-order (λ w. w .number) p (pick-at-order (now 
 pub c-pick-early-number : Numbered 1 pick-early.ps pick-early.r pick-early-reads.Post (λ κs x. x .number) (λ κs a. pickEarlyOrder (now (a .0)) (a .1 .0))
 c-pick-early-number κs a x s p = by-order (λ w. w .number) p (pick-early-order (now (a .0)) (a .1 .0))
 
--- ---- records written, measured, inserted
+-- ---- records written, inserted
 
 pub c-encode-message-number : Numbered 3 encode-message.ps encode-message.r encode-message-reads.Post (λ κs x. x .number)
     (λ κs a. writeOrder (now (a .0)) (now (a .1 .0)) (a .1 .1 .0) (now (a .1 .1 .1 .0)))
@@ -195,10 +193,6 @@ pub c-prepend-message-number : Numbered 3 prepend-message.ps prepend-message.r p
     (λ κs a. writeOrder (now (a .0)) (now (a .1 .0)) (a .1 .1 .0) (now (a .1 .1 .1 .0)))
 c-prepend-message-number κs a x s p =
     by-order (λ (o : Lent told.Wrote). o .told .number) p (prepend-message-order (now (a .0)) (now (a .1 .0)) (a .1 .1 .0) (now (a .1 .1 .1 .0)))
-
-pub c-encoded-len-message-number : Numbered 2 encoded-len-message.ps encoded-len-message.r encoded-len-message-reads.Post (λ κs x. x .number)
-    (λ κs a. measureOrder (now (a .0)) (now (a .1 .0)) (a .1 .1 .0))
-c-encoded-len-message-number κs a x s p = by-order (λ w. w .number) p (measure-order (now (a .0)) (now (a .1 .0)) (a .1 .1 .0))
 
 pub c-insert-number : Numbered 2 insert.ps insert.r insert-reads.Post (λ κs x. x .number)
     (λ κs a. insertOrder (now (a .0)) (now (a .1 .0)) (a .1 .1 .0)

@@ -8,8 +8,6 @@ use Rattle.entry_write.proofs.encode_message.Kinds as encode-message
 use Rattle.entry_write.proofs.encode_message.Reads as encode-message-reads
 use Rattle.entry_write.proofs.prepend_message.Kinds as prepend-message
 use Rattle.entry_write.proofs.prepend_message.Reads as prepend-message-reads
-use Rattle.entry_write.proofs.encoded_len_message.Kinds as encoded-len-message
-use Rattle.entry_write.proofs.encoded_len_message.Reads as encoded-len-message-reads
 use Rattle.entry_write.proofs.insert.Kinds as insert
 use Rattle.entry_write.proofs.insert.Reads as insert-reads
 
@@ -20,9 +18,6 @@ encode-message-one κs a x y s t p q = p ∙ sym q
 pub prepend-message-one : One 3 prepend-message.ps prepend-message.r prepend-message-reads.Post {S = Writing}
     (λ κs r s. record { answer = r; buf = now (s .1 .1 .1 .0) })
 prepend-message-one κs a x y s t p q = p ∙ sym q
-
-pub encoded-len-message-one : One 2 encoded-len-message.ps encoded-len-message.r encoded-len-message-reads.Post (λ κs r s. r)
-encoded-len-message-one κs a x y s t p q = p ∙ sym q
 
 pub insert-one : One 2 insert.ps insert.r insert-reads.Post {S = Insertion} (λ κs r s. record { answer = r; table = now (s .1 .0) })
 insert-one κs a x y s t p q = p ∙ sym q

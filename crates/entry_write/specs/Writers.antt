@@ -1,21 +1,17 @@
--- The entries that write tables, measure them and insert into them: what each answers, and what it leaves.
+-- The entries that write tables and insert into them: what each answers, and what it leaves.
 use Prim.Native.Nat.{ℕ}
 use mathlib.Core.List.{List}
 use Rattle.wire.specs.Limits.{messageLimit}
-use Rattle.write_message.specs.Writing.{plan, measured, Writing, front, back}
+use Rattle.write_message.specs.Writing.{plan, Writing, front, back}
 use Rattle.write_insertion.specs.Insertion.{aim, Insertion, inserts}
 use Rattle.wire.specs.declared.Record.{Record}
-use Rattle.wire.specs.declared.Written.{Written}
 
--- Rules E2, E3 and E4: of a source, a table, a count and a buffer: the message at the buffer's front, at its end, or its length alone
+-- Rules E2, E3 and E4: of a source, a table, a count and a buffer: the message at the buffer's front, or at its end
 abbrev pub encodeMessage : List ℕ → List ℕ → ℕ → List ℕ → Writing
 encodeMessage s t c b = front b (plan messageLimit s t c)
 
 abbrev pub prependMessage : List ℕ → List ℕ → ℕ → List ℕ → Writing
 prependMessage s t c b = back b (plan messageLimit s t c)
-
-abbrev pub encodedLen : List ℕ → List ℕ → ℕ → Written
-encodedLen s t c = measured (plan messageLimit s t c)
 
 -- Rule I1: of a source, a table, a count and a new record: the record in its place
 abbrev pub insertRecord : List ℕ → List ℕ → ℕ → Record → Insertion

@@ -7,7 +7,7 @@ use Rattle.wire.specs.Varint.{encode}
 use Rattle.wire.specs.Limits.{messageLimit}
 use Rattle.wire.specs.Table.{recordAt, goodValue, good}
 use Rattle.write_record.specs.Records.{judge, checked}
-use Rattle.write_message.specs.Writing.{Plan, Writes, Refuses, plan, measured, front, back}
+use Rattle.write_message.specs.Writing.{Plan, Writes, Refuses, plan, front, back}
 use Rattle.write_insertion.specs.Insertion.{aim, inserts}
 use Rattle.write_insertion.specs.Insertion as insertion
 use Rattle.wire.specs.declared.Record.{Record}
@@ -32,8 +32,11 @@ pub writing :
     (planned source table 3 ≡ Writes bytes)
     × (front (replicate 21 7) (planned source table 3) ≡ record { answer = At 0 19; buf = bytes ++ (7 ∷ 7 ∷ []) })
     × (back (replicate 21 7) (planned source table 3) ≡ record { answer = At 2 19; buf = 7 ∷ 7 ∷ bytes })
-    × (front (replicate 18 7) (planned source table 3) ≡ record { answer = Refused NoRoom 0 0; buf = replicate 18 7 })
-    × (measured (planned source table 3) ≡ At 0 19)
+    × (front (replicate 18 7) (planned source table 3) ≡ record { answer = Refused NoRoom 0 19; buf = replicate 18 7 })
+    × (back (replicate 18 7) (planned source table 3) ≡ record { answer = Refused NoRoom 0 19; buf = replicate 18 7 })
+    -- no buffer: the length, and 0 where nothing is to be written
+    × (front [] (planned source table 3) ≡ record { answer = Refused NoRoom 0 19; buf = [] })
+    × (front [] (planned source table 0) ≡ record { answer = At 0 0; buf = [] })
     × (back (7 ∷ 7 ∷ []) (planned source table 0) ≡ record { answer = At 2 0; buf = 7 ∷ 7 ∷ [] })
     -- the source is not copied
     × (front (7 ∷ 7 ∷ []) (planned (0 ∷ 0 ∷ []) [] 0) ≡ record { answer = At 0 0; buf = 7 ∷ 7 ∷ [] })
@@ -48,8 +51,8 @@ pub writing :
     × (planned source (0 ∷ 1 ∷ 3 ∷ 0 ∷ []) 1 ≡ Refuses BadRecord 0)
     × (planned source (0 ∷ 2 ∷ (2 ^ 32) ∷ 4 ∷ []) 1 ≡ Refuses BadRecord 0)
     × (planned source (0 ∷ (2 ^ 32) ∷ 0 ∷ 0 ∷ []) 1 ≡ Refuses BadRecord 0)
-unfolding plan checked front back measured encode recordAt goodValue good judge
-writing = (refl, refl, refl, refl, refl, refl, refl, refl, refl, refl, refl, refl, refl, refl, refl)
+unfolding plan checked front back encode recordAt goodValue good judge
+writing = (refl, refl, refl, refl, refl, refl, refl, refl, refl, refl, refl, refl, refl, refl, refl, refl, refl)
 
 abbrev short : ℕ → ℕ → Record
 short tag v = record { tag = tag; kind = 0; value = v; length = 0 }

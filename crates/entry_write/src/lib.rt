@@ -1,6 +1,6 @@
 // The entries that write messages and insert into tables. The limit is theirs; the tests are a core's.
 ghost use mathlib.Core.Path.{_≡_};
-ghost use Rattle.entry_write.specs.Writers.{encodeMessage, prependMessage, encodedLen, insertRecord};
+ghost use Rattle.entry_write.specs.Writers.{encodeMessage, prependMessage, insertRecord};
 use wire::Inserted;
 use wire::Record;
 use wire::Written;
@@ -8,7 +8,8 @@ use wire::Written;
 // The longest source and the longest message, as the cores take it.
 const LONGEST: u32 = wire::MESSAGE_LIMIT as u32;
 
-// The message of a table's first records, over the source that holds their payloads, at the buffer's front. A refusal leaves the buffer as it was.
+// The message of a table's first records, over the source that holds their payloads, at the buffer's front. A refusal leaves the buffer as it was; NoRoom
+// carries the length that the message has.
 pub fn encode_message(source: &[u8], table: &[u64], count: usize, buf: &mut [u8]) -> Written
     ensures { λ r. ⌜ record { answer = r; buf = now (buf .exit) } ≡ encodeMessage (now (source .entry)) (now (table .entry)) count (now (buf .entry)) ⌝ }
 {
@@ -20,13 +21,6 @@ pub fn prepend_message(source: &[u8], table: &[u64], count: usize, buf: &mut [u8
     ensures { λ r. ⌜ record { answer = r; buf = now (buf .exit) } ≡ prependMessage (now (source .entry)) (now (table .entry)) count (now (buf .entry)) ⌝ }
 {
     write_message::write_back(source, table, count, LONGEST, buf)
-}
-
-// How long that message is.
-pub fn encoded_len_message(source: &[u8], table: &[u64], count: usize) -> Written
-    ensures { λ r. ⌜ r ≡ encodedLen (now (source .entry)) (now (table .entry)) count ⌝ }
-{
-    write_message::measure(source, table, count, LONGEST)
 }
 
 // A new record behind all of a table's first records whose tag is equal or lower. A refusal leaves the table as it was.

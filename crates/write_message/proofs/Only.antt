@@ -5,8 +5,6 @@ use Rattle.wire.specs.Only.{One}
 use Rattle.write_message.specs.Writing.{Writing}
 use Rattle.write_message.proofs.weigh.Kinds as weigh
 use Rattle.write_message.proofs.weigh.Reads as weigh-reads
-use Rattle.write_message.proofs.measure.Kinds as measure
-use Rattle.write_message.proofs.measure.Reads as measure-reads
 use Rattle.write_message.proofs.write_front.Kinds as write-front
 use Rattle.write_message.proofs.write_front.Reads as write-front-reads
 use Rattle.write_message.proofs.write_back.Kinds as write-back
@@ -14,9 +12,6 @@ use Rattle.write_message.proofs.write_back.Reads as write-back-reads
 
 pub weigh-one : One 2 weigh.ps weigh.r weigh-reads.Post (λ κs r s. r)
 weigh-one κs a x y s t p q = p ∙ sym q
-
-pub measure-one : One 2 measure.ps measure.r measure-reads.Post (λ κs r s. r)
-measure-one κs a x y s t p q = p ∙ sym q
 
 pub write-front-one : One 3 write-front.ps write-front.r write-front-reads.Post {S = Writing} (λ κs r s. record { answer = r; buf = now (s .1 .1 .1 .1 .0) })
 write-front-one κs a x y s t p q = p ∙ sym q

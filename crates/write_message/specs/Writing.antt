@@ -29,20 +29,20 @@ plan most s t c = passed most (message s t c) (checked most s t c)
 
 -- ---- what is answered
 
--- Rule R7: a refusal answers the number that it carries, and length 0
+-- Rule R7: a refusal that is not 5 answers the number that it carries, and length 0
 abbrev pub refused : Refusal → ℕ → Written
 refused r i = Refused r i 0
 
--- Rule R7: bytes that a buffer has no room for: 0, 0
+-- Rule R7: bytes that a buffer has no room for: 0, and how many they are
 abbrev pub noRoom : List ℕ → Written
-noRoom bs = Refused NoRoom 0 0
+noRoom bs = Refused NoRoom 0 (length bs)
 
--- Rule E4: measuring: 0 and the length
+-- how long it is, before a buffer is looked at: 0 and the length
 unfoldable pub measured : Plan → Written
 measured (Writes bs) = At 0 (length bs)
 measured (Refuses r i) = refused r i
 
--- Rule R6: measuring for a buffer of n bytes: 5 behind all else
+-- Rule R6: the same for a buffer of n bytes: 5 behind all else
 unfoldable pub fitted : ℕ → Plan → Written
 fitted n (Writes bs) = choose (leb (length bs) n) (At 0 (length bs)) (noRoom bs)
 fitted n (Refuses r i) = refused r i

@@ -7,12 +7,13 @@ use native.Mathlib.Omega.{arith}
 use borrow.Author.Tests.{le-leb, lt-leb, leb-true, leb-false}
 use lib.Dec.{leb}
 use lib.ListN.{length}
+use Rattle.wire.specs.Numbers.{numberOf}
 use Rattle.wire.specs.Table.{room, recordAt}
 use Rattle.write_record.specs.Records.{tagBefore, Verdict, AllFine, First, tested, checked, message}
-use Rattle.write_record.specs.RecordLaws.{Sound, good-sound, judge-fine, fine-at}
+use Rattle.write_record.specs.RecordLaws.{Sound, good-sound, judge-fine, fine-at, tested-why}
 use Rattle.write_message.specs.Writing.{Plan, Writes, Refuses, passed, plan, refused, noRoom, measured, fitted, Writing, into, spent}
 use Rattle.wire.specs.declared.Refusal.{Refusal}
-use Rattle.wire.specs.declared.Refusal.the-variants.{TooLong, BadRecord}
+use Rattle.wire.specs.declared.Refusal.the-variants.{TooLong, NoRoom, BadRecord}
 use Rattle.wire.specs.declared.Weighed.{Weighed}
 use Rattle.wire.specs.declared.Weighed.the-variants as weighed
 use Rattle.wire.specs.declared.Written.{Written}
@@ -58,6 +59,21 @@ checked-fine most s t c e = go (leb (length s) most) refl (leb c (room t)) refl
     go true a false b = no-fine (sym (checked-count most s t c (leb-true (length s) most a) (leb-false c (room t) b)) ∙ e)
     go false a b q = no-fine (sym (checked-long most s t c (leb-false (length s) most a)) ∙ e)
 
+-- no refusal of the tests is for want of room
+checked-why : (most : ℕ) (s t : List ℕ) (c : ℕ) (why : Refusal) (i : ℕ) → checked most s t c ≡ First why i → numberOf why ≡ numberOf NoRoom → ⊥
+checked-why most s t c why i e z = go (leb (length s) most) refl (leb c (room t)) refl
+  where
+    go : (a : Bool) → leb (length s) most ≡ a → (b : Bool) → leb c (room t) ≡ b → ⊥
+    go true a true b = tested-why (length s) t c why i (sym (checked-tests most s t c (leb-true (length s) most a) (leb-true c (room t) b)) ∙ e) z
+    go true a false b =
+        let f = sym (checked-count most s t c (leb-true (length s) most a) (leb-false c (room t) b)) ∙ e in
+        let k : BadRecord ≡ why = cc in
+        omega (arith, ap numberOf k, z)
+    go false a b q =
+        let f = sym (checked-long most s t c (leb-false (length s) most a)) ∙ e in
+        let k : TooLong ≡ why = cc in
+        omega (arith, ap numberOf k, z)
+
 -- ---- the plan
 
 no-writes : {A : Type 0} {r : Refusal} {i : ℕ} {bs : List ℕ} → Refuses r i ≡ Writes bs → A
@@ -89,6 +105,27 @@ module _ (most : ℕ) (s t : List ℕ) (c : ℕ) where
   plan-writes bs e =
       let p = passed-writes most (message s t c) (checked most s t c) bs e in
       (checked-fine most s t c (p .0) .1, p .1)
+
+  pub plan-short : (bs : List ℕ) → plan most s t c ≡ Writes bs → length bs ≤ most
+  unfolding plan
+  plan-short bs e =
+      let p = passed-writes most (message s t c) (checked most s t c) bs e in
+      omega (arith, ap length (p .1), p .2)
+
+  -- a plan knows no buffer, so that none is refused for want of room
+  pub plan-why : (why : Refusal) (i : ℕ) → plan most s t c ≡ Refuses why i → numberOf why ≡ numberOf NoRoom → ⊥
+  plan-why why i e z = go (checked most s t c) refl (leb (length (message s t c)) most) refl
+    where
+      go : (v : Verdict) → checked most s t c ≡ v → (b : Bool) → leb (length (message s t c)) most ≡ b → ⊥
+      go AllFine q true b = no-writes (sym e ∙ plan-fine q (leb-true (length (message s t c)) most b))
+      go AllFine q false b =
+          let f = sym (plan-over q (leb-false (length (message s t c)) most b)) ∙ e in
+          let k : TooLong ≡ why = cc in
+          omega (arith, ap numberOf k, z)
+      go (First x j) q b p =
+          let f = sym (plan-first x j q) ∙ e in
+          let k : x ≡ why = cc in
+          checked-why most s t c x j q (ap numberOf k ∙ z)
 
 -- ---- what the count of the bytes tells of the tests and of the plan
 
@@ -172,10 +209,10 @@ module _ (n : ℕ) (p : Plan) where
       let b : z ≡ 0 = m .3 in
       fitted-writes n (m .1) (omega arith) ∙ cc
 
-  pub fit-none : (z k : ℕ) → measured p ≡ At z k → n < k → (bs : List ℕ) × (fitted n p ≡ noRoom bs)
+  pub fit-none : (z k : ℕ) → measured p ≡ At z k → n < k → fitted n p ≡ Refused NoRoom 0 k
   fit-none z k e h =
       let m = measured-at p z k e in
-      (m .0, fitted-none n (m .1) (omega (arith, m .2)))
+      fitted-none n (m .1) (omega (arith, m .2)) ∙ ap (Refused NoRoom 0) (sym (m .2))
 
 -- ---- what is left
 

@@ -61,7 +61,7 @@ pub fn weigh(source: &[u8], table: &[u64], count: usize, most: u32) -> Weighed
 }
 
 // How long the records' message is.
-pub fn measure(source: &[u8], table: &[u64], count: usize, most: u32) -> Written
+fn measure(source: &[u8], table: &[u64], count: usize, most: u32) -> Written
     ensures { λ r. ⌜ r ≡ measured (plan most (now (source .entry)) (now (table .entry)) count) ⌝ }
 {
     match weigh(source, table, count, most) {
@@ -75,7 +75,7 @@ pub fn measure(source: &[u8], table: &[u64], count: usize, most: u32) -> Written
     }
 }
 
-// The same for a buffer of so many bytes.
+// The same for a buffer of so many bytes. One that is too short is told the length that is needed.
 fn fit(source: &[u8], table: &[u64], count: usize, most: u32, bytes: usize) -> Written
     ensures { λ r. ⌜ r ≡ fitted bytes (plan most (now (source .entry)) (now (table .entry)) count) ⌝ }
 {
@@ -83,7 +83,7 @@ fn fit(source: &[u8], table: &[u64], count: usize, most: u32, bytes: usize) -> W
         Written::Refused(why, start, n) => Written::Refused(why, start, n),
         Written::At(start, n) => {
             if bytes < n {
-                return Written::Refused(Refusal::NoRoom, 0, 0);
+                return Written::Refused(Refusal::NoRoom, 0, n);
             }
             Written::At(start, n)
         }

@@ -10,6 +10,7 @@ use lib.Dec.{ltb, leb, eqb}
 use lib.ListN.{length, take, drop, length-append, length-drop}
 use lib.Seq.{length-take-le}
 use Rattle.wire.specs.Choose.{choose}
+use Rattle.wire.specs.Numbers.{numberOf}
 use Rattle.wire.specs.Varint.{encode}
 use Rattle.wire.specs.VarintLaws.{length-le}
 use Rattle.wire.specs.VarintLength.{length-four}
@@ -21,7 +22,7 @@ use Rattle.write_record.specs.Records.{tagBefore, Judged, Fine, Bad, jud
 use Rattle.write_record.specs.Records.{valueSize, recordSize, weighValue, weigh, run, message}
 use Rattle.wire.specs.declared.Record.{Record}
 use Rattle.wire.specs.declared.Refusal.{Refusal}
-use Rattle.wire.specs.declared.Refusal.the-variants.{BadRecord, OutOfOrder}
+use Rattle.wire.specs.declared.Refusal.the-variants.{NoRoom, BadRecord, OutOfOrder}
 use Rattle.wire.specs.declared.Weight.{Weight}
 use Rattle.wire.specs.declared.Weight.the-variants as weight
 
@@ -162,6 +163,21 @@ module _ (n prev : ℕ) (r : Record) where
       go true g false o = absurd (no (sym (judge-falls g (leb-false prev (r .tag) o)) ∙ e))
       go false g o q = absurd (no (sym (judge-bad g) ∙ e))
 
+  -- a record is refused as not good or as out of order, and not for want of room
+  pub judge-why : (why : Refusal) → judge n prev r ≡ Bad why → numberOf why ≡ numberOf NoRoom → ⊥
+  judge-why why e z = go (good n r) refl (leb prev (r .tag)) refl
+    where
+      go : (g : Bool) → good n r ≡ g → (o : Bool) → leb prev (r .tag) ≡ o → ⊥
+      go true g true o = let h = sym (judge-good g (leb-true prev (r .tag) o)) ∙ e in let y : _≡_ {A = ℕ} 0 1 = cc in omega arith
+      go true g false o =
+          let h = sym (judge-falls g (leb-false prev (r .tag) o)) ∙ e in
+          let k : OutOfOrder ≡ why = cc in
+          omega (arith, ap numberOf k, z)
+      go false g o q =
+          let h = sym (judge-bad g) ∙ e in
+          let k : BadRecord ≡ why = cc in
+          omega (arith, ap numberOf k, z)
+
 -- ---- all records, from the first
 
 fine-both : (v : Verdict) (j : Judged) (i : ℕ) → andThen v j i ≡ AllFine → (v ≡ AllFine) × (j ≡ Fine)
@@ -185,6 +201,17 @@ module _ (n : ℕ) (t : List ℕ) where
   pub first-stays : (c k : ℕ) (why : Refusal) (i : ℕ) → tested c n t ≡ First why i → tested (k + c) n t ≡ First why i
   first-stays c zero why i e = rw (zero-add c) e
   first-stays c (suc k) why i e = rw (suc-add k c, first-stays c k why i e)
+
+  -- no refusal of the records is for want of room
+  pub tested-why : (c : ℕ) (why : Refusal) (i : ℕ) → tested c n t ≡ First why i → numberOf why ≡ numberOf NoRoom → ⊥
+  tested-why zero why i e z = let y : _≡_ {A = ℕ} 0 1 = cc in omega arith
+  tested-why (suc c) why i e z = go (tested-why c why i) (tested c n t) refl (judge n (tagBefore t c) (recordAt t c)) refl e
+    where
+      go : (tested c n t ≡ First why i → numberOf why ≡ numberOf NoRoom → ⊥)
+          → (v : Verdict) → tested c n t ≡ v → (j : Judged) → judge n (tagBefore t c) (recordAt t c) ≡ j → andThen v j c ≡ First why i → ⊥
+      go ih (First x k) p j q f = ih (p ∙ f) z
+      go ih AllFine p Fine q f = let y : _≡_ {A = ℕ} 0 1 = cc in omega arith
+      go ih AllFine p (Bad x) q f = let k : x ≡ why = cc in judge-why n (tagBefore t c) (recordAt t c) x q (ap numberOf k ∙ z)
 
 -- ---- the bytes of one record
 

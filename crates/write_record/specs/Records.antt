@@ -45,7 +45,7 @@ abbrev pub tested : ℕ → ℕ → List ℕ → Verdict
 tested zero n t = AllFine
 tested (suc i) n t = andThen (tested i n t) (judge n (tagBefore t i) (recordAt t i)) i
 
--- Rule R6: the order of writers, measuring and insertion: a source that is longer than most; a count above room, which carries the room; the records
+-- Rule R6: the order of writers and insertion: a source that is longer than most; a count above room, which carries the room; the records
 unfoldable pub checked : ℕ → List ℕ → List ℕ → ℕ → Verdict
 checked most s t c =
     choose (leb (length s) most) (choose (leb c (room t)) (tested c (length s) t) (First BadRecord (room t))) (First TooLong 0)

@@ -15,7 +15,7 @@ enum-known-start : tie.Need-enum-known-start
 enum-known-start c = search needs
 
 returns : tie.Need-returns
-returns c = sym (fit-none _ _ _ _ (sym (c .before .before .before .before .measure .ensures) ∙ c .before .before .start .given .1) (c .if1 .taken) .1)
+returns c = sym (fit-none _ _ _ _ (sym (c .before .before .before .before .measure .ensures) ∙ c .before .before .start .given .1) (c .if1 .taken))
 
 returns-2 : tie.Need-returns-2
 returns-2 c = sym (fit-refused _ _ _ _ _ (sym (c .before .before .before .measure .ensures) ∙ c .before .why .given .1))
