@@ -54,7 +54,7 @@ pub(crate) const ENCODE_MESSAGE_SUM: u8 = b'W';
 
 pub(crate) const PREPEND_MESSAGE_SUM: u8 = b'Q';
 
-pub(crate) const ENCODED_LEN_MESSAGE: u8 = b'l';
+pub(crate) const ENCODE_NO_BUFFER: u8 = b'l';
 
 pub(crate) const INSERT: u8 = b'i';
 

@@ -124,7 +124,7 @@ fn asked_by(letter: u8) -> usize {
         | letter::PICK
         | letter::ENCODED_LEN_VARINT
         | letter::TO_SIGNED
-        | letter::ENCODED_LEN_MESSAGE => 1,
+        | letter::ENCODE_NO_BUFFER => 1,
         letter::DECODE_VARINT_CAPPED
         | letter::ENCODE_VARINT
         | letter::PREPEND_VARINT
@@ -182,7 +182,7 @@ fn answer(
         | letter::PREPEND_MESSAGE
         | letter::ENCODE_MESSAGE_SUM
         | letter::PREPEND_MESSAGE_SUM
-        | letter::ENCODED_LEN_MESSAGE => ask_write(letter, s, table, words, buf, ours),
+        | letter::ENCODE_NO_BUFFER => ask_write(letter, s, table, words, buf, ours),
         letter::INSERT => ask_insert(s, table, words, ours),
         letter::PAYLOAD_OF => ask_payload(s, words, ours),
         _ => ask_pick(s, words, ours),

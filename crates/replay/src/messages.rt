@@ -162,6 +162,14 @@ pub(crate) fn ask_pick(s: &[u8], words: &Words, ours: &mut Words) -> usize {
     0
 }
 
+// The bytes of an accepted write. A refusal's length is of no bytes that stand in the buffer.
+fn message_bytes(number: u64, length: u64) -> usize {
+    if 0 < number {
+        return 0;
+    }
+    length as usize
+}
+
 fn written_told(
     letter: u8,
     number: u64,
@@ -173,7 +181,7 @@ fn written_told(
     lent::three(ours, number, start, length);
     let part = Part {
         start: start as usize,
-        length: length as usize,
+        length: message_bytes(number, length),
         fill: line::wide(FILL_BYTE),
     };
     let seen = lent::look_at_bytes(buf, part, ours, 3);
@@ -189,7 +197,7 @@ fn write_into(
     ours: &mut Words,
 ) -> usize {
     match letter {
-        letter::ENCODE_MESSAGE | letter::ENCODE_MESSAGE_SUM => {
+        letter::ENCODE_MESSAGE | letter::ENCODE_MESSAGE_SUM | letter::ENCODE_NO_BUFFER => {
             let r = capgauze_c::capgauze_encode_message(s, table, count, buf);
             written_told(letter, r.number, r.start, r.length, buf, ours)
         }
@@ -198,6 +206,14 @@ fn write_into(
             written_told(letter, r.number, r.start, r.length, buf, ours)
         }
     }
+}
+
+// The bytes of the buffer that is lent: for one letter there are none.
+fn room_of(letter: u8, words: &Words) -> usize {
+    if letter == letter::ENCODE_NO_BUFFER {
+        return 0;
+    }
+    words[1] as usize
 }
 
 pub(crate) fn ask_write(
@@ -209,11 +225,7 @@ pub(crate) fn ask_write(
     ours: &mut Words,
 ) -> usize {
     let count = words[0] as usize;
-    let n = words[1] as usize;
-    if letter == letter::ENCODED_LEN_MESSAGE {
-        let r = capgauze_c::capgauze_encoded_len_message(s, table, count);
-        return lent::three(ours, r.number, r.start, r.length);
-    }
+    let n = room_of(letter, words);
     if buf.len() < n {
         return 0;
     }
