@@ -18,7 +18,11 @@ static uint64_t job_write(const Load *l, Work *w) {
 static uint64_t job_prepend(const Load *l, Work *w) {
     return written(w, capgauze_prepend_message(RECORDS, w->out, w->out_len));
 }
-static uint64_t job_measure(const Load *l, Work *w) { return written(w, capgauze_encoded_len_message(RECORDS)); }
+/* A buffer of no bytes: NoRoom with the length. */
+static uint64_t job_measure(const Load *l, Work *w) {
+    capgauze_written r = capgauze_encode_message(RECORDS, w->out, 0);
+    return r.number && r.number != CAPGAUZE_NO_ROOM ? REFUSED : r.length;
+}
 /* A table of no words: pass one, and NoRoom with the count. */
 static uint64_t job_pass_one(const Load *l, Work *w) {
     if (l->deep) return NOT_DONE;

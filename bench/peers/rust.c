@@ -25,7 +25,6 @@ uint64_t rust_same_encode(const Lent *, uint8_t *, size_t);
 uint64_t rust_table_prepend(const Lent *, void *reverse, const uint8_t **wrote);
 uint64_t rust_same_prepend(const Lent *, void *reverse, const uint8_t **wrote);
 uint64_t rust_table_len(const Lent *);
-uint64_t rust_same_len(const Lent *);
 void rust_same_pick(const uint8_t *, size_t, uint32_t tag, Found *);
 void rust_borrowed_pick(const uint8_t *, size_t, uint32_t tag, Found *);
 void rust_same_pick_at(const uint8_t *, size_t, uint32_t tag, uint64_t number, Found *);
@@ -70,7 +69,7 @@ REGISTER(12, .kind = PREPEND, .name = "rust-same", .prepare = reverse, .run = sa
 
 JOB(opaque_len) { NONE; return rust_opaque_len(w->own); }
 JOB(table_len) { Lent from = lent(l, w); return rust_table_len(&from); }
-JOB(same_len) { Lent from = lent(l, w); return rust_same_len(&from); }
+JOB(same_len) { Lent from = lent(l, w); return rust_same_encode(&from, w->out, 0); }
 REGISTER(13, .kind = MEASURE, .name = "rust-opaque", .prepare = held, .run = opaque_len)
 REGISTER(14, .kind = MEASURE, .name = "rust-table", .run = table_len)
 REGISTER(15, .kind = MEASURE, .name = "rust-same", .run = same_len)

@@ -213,16 +213,15 @@ capgauze_number capgauze_prepend_key(uint32_t last, uint32_t tag, uint64_t type,
 capgauze_number capgauze_key_len(uint32_t last, uint32_t tag);
 
 /* The first `count` records of the table as a message, payloads taken from the source. Accepted: where it starts in
- * the buffer, and its length; encode fills the front, prepend the end, all other bytes stay; measuring writes nothing and
- * answers start 0. Refusals in order: TooLong for the source; BadRecord with the room as start, if the count is above it;
- * from the first record on BadRecord, then OutOfOrder, with the record's index as start; TooLong for the output; NoRoom
- * (not for measuring). Length 0 with each, and start 0 with TooLong and NoRoom. */
+ * the buffer, and its length; encode fills the front, prepend the end, all other bytes stay. Refusals in order: TooLong
+ * for the source; BadRecord with the room as start, if the count is above it; from the first record on BadRecord, then
+ * OutOfOrder, with the record's index as start; TooLong for the output; NoRoom with the length needed as length. With
+ * the others length is 0, and with TooLong and NoRoom start is 0. A buffer of no bytes is how a message is measured: a
+ * buffer of the length that NoRoom tells is enough, for both. */
 capgauze_written capgauze_encode_message(const uint8_t *source, size_t source_len, const uint64_t *table, size_t words,
                                          size_t count, uint8_t *buf, size_t buf_len);
 capgauze_written capgauze_prepend_message(const uint8_t *source, size_t source_len, const uint64_t *table, size_t words,
                                           size_t count, uint8_t *buf, size_t buf_len);
-capgauze_written capgauze_encoded_len_message(const uint8_t *source, size_t source_len, const uint64_t *table,
-                                              size_t words, size_t count);
 
 /* Puts a record behind all of equal or lower tag among the table's first `count`; later ones move up one. Value is the
  * new count. Refusals in order: TooLong for the source (value 0); BadRecord with the room, if the count is above it; from

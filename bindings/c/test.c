@@ -169,15 +169,19 @@ static void writing(void) {
     use("C0DE");
     lay(13, (const uint64_t[]){1, 0, UINT64_MAX, 0, 3, 1, 0, 2, 3, 2, 1, 4, 77});
     room(21);
-    SAME(capgauze_encoded_len_message(S, TABLE, 3), 0, 0, 19);
     SAME(capgauze_prepend_message(S, TABLE, 3, BUF), 0, 2, 19);
     BUF_IS("A5A504FFFEFEFEFEFEFEFEFE0902C0DE0201000000");
     room(18);
-    SAME(capgauze_encode_message(S, TABLE, 3, BUF), 5, 0, 0);
+    SAME(capgauze_encode_message(S, TABLE, 3, BUF), 5, 0, 19); /* the length needed */
+    SAME(capgauze_prepend_message(S, TABLE, 3, BUF), 5, 0, 19);
     SAME(capgauze_encode_message(S, TABLE, 4, BUF), 6, 3, 0);
     SAME(capgauze_prepend_message(S, TABLE, 0, BUF), 0, 18, 0);
     SAME(capgauze_encode_message(S, TABLE, 2, BUF), 0, 0, 14);
     BUF_IS("04FFFEFEFEFEFEFEFEFE0902C0DEA5A5A5A5");
+    room(0); /* measured by a buffer of no bytes */
+    SAME(capgauze_encode_message(S, TABLE, 3, BUF), 5, 0, 19);
+    SAME(capgauze_prepend_message(S, TABLE, 2, BUF), 5, 0, 14);
+    SAME(capgauze_encode_message(S, TABLE, 0, BUF), 0, 0, 0);
 
     lay(9, (const uint64_t[]){1, 0, 5, 0, 77, 77, 77, 77, 77});
     SAME(capgauze_insert(S, TABLE, 1, 0, 1, 0, 2), 0, 2);
@@ -499,12 +503,10 @@ static void longest(void) {
     SAME(capgauze_prepend_message(S, TABLE, FIELDS, BUF), 0, 0, CAPGAUZE_LIMIT);
     SAME((uint64_t)memcmp(buf, bytes, len), 0);
     room(CAPGAUZE_LIMIT - 1);
-    SAME(capgauze_encode_message(S, TABLE, FIELDS, BUF), 5, 0, 0);
-    SAME(capgauze_encoded_len_message(S, TABLE, FIELDS), 0, 0, CAPGAUZE_LIMIT);
+    SAME(capgauze_encode_message(S, TABLE, FIELDS, BUF), 5, 0, CAPGAUZE_LIMIT);
     SAME(capgauze_insert(S, TABLE, FIELDS - 1, 31, 0, 128, 0), 0, FIELDS);
-    SAME(capgauze_encoded_len_message(S, TABLE, FIELDS), 0, 0, CAPGAUZE_LIMIT);
+    SAME(capgauze_prepend_message(S, TABLE, FIELDS, BUF), 5, 0, CAPGAUZE_LIMIT);
     table[4 * FIELDS - 4] = 32; /* its key takes one byte more than may be written */
-    SAME(capgauze_encoded_len_message(S, TABLE, FIELDS), 4, 0, 0);
     SAME(capgauze_encode_message(S, TABLE, FIELDS, buf, 0), 4, 0, 0); /* before NoRoom */
     lay(4 * FIELDS - 1, 0);
     SAME(capgauze_read_message(S, 0, len, TABLE), 5, 0, FIELDS);

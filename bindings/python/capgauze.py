@@ -94,7 +94,6 @@ _ENTRIES = {
     "read_payload": (_READ, *_BYTES, *_RECORD, *_TABLE),
     "encode_message": (_WRITTEN, *_BYTES, *_TABLE, _SIZE, *_BYTES),
     "prepend_message": (_WRITTEN, *_BYTES, *_TABLE, _SIZE, *_BYTES),
-    "encoded_len_message": (_WRITTEN, *_BYTES, *_TABLE, _SIZE),
     "insert": (_NUMBER, *_BYTES, *_TABLE, _SIZE, *_RECORD),
     "pick": (_answer("number found type value length"), *_BYTES, _U32),
     "pick_at": (_answer("number count found type value length"), *_BYTES, _U32, _SIZE),
@@ -156,6 +155,7 @@ def _accepted(name, *arguments):
     number, *words = call(name, *arguments)
     if number:
         names = [] if name in _NUMBER_ALONE else [field for field, _ in _ENTRIES[name][0]._fields_[1:]]
+        names = ["start", "needed"] if _ENTRIES[name][0] is _WRITTEN else names
         raise Refused(number, dict(zip(names, words)))
     return words
 
@@ -462,18 +462,20 @@ def key_len(last, tag):
 
 
 def encode_message(source, table, count, buf):
-    """Writes the table's first records as a message to the buffer's front: start and length."""
+    """Writes the table's first records as a message to the buffer's front: start and length.
+
+    NoRoom (5) carries the length needed.
+
+    >>> encode_message(b"", words(4), 1, bytearray())
+    Traceback (most recent call last):
+    capgauze.Refused: NoRoom (5): start 0, needed 2
+    """
     return Written(*_accepted("encode_message", *lent(source), *room(table, ctypes.c_uint64), count, *room(buf)))
 
 
 def prepend_message(source, table, count, buf):
     """Writes it to the buffer's end."""
     return Written(*_accepted("prepend_message", *lent(source), *room(table, ctypes.c_uint64), count, *room(buf)))
-
-
-def encoded_len_message(source, table, count):
-    """The length of that message."""
-    return _accepted("encoded_len_message", *lent(source), *room(table, ctypes.c_uint64), count)[1]
 
 
 def insert(source, table, count, record):
@@ -504,6 +506,12 @@ def message(records, source=b""):
     '04050d026865'
     """
     table = array("Q", (word for record in records for word in Record(*record)))
-    buf = bytearray(encoded_len_message(source, table, len(records)))
-    encode_message(source, table, len(records), buf)
-    return bytes(buf)
+    buf = bytearray(256)
+    try:
+        length = encode_message(source, table, len(records), buf).length
+    except Refused as refused:
+        if refused.name != "NoRoom":
+            raise
+        buf = bytearray(refused.carried["needed"])
+        length = encode_message(source, table, len(records), buf).length
+    return bytes(buf[:length])

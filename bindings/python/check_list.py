@@ -49,7 +49,7 @@ class Replay:
         self.answers = {
             "v": reader("decode_varint"), "c": reader("decode_varint_capped"), "k": reader("decode_key"),
             "d": reader("decode_value"), "s": reader("skip_field"), "f": reader("step_at"), "o": reader("payload_of"),
-            "x": lambda tag: index(self.source, tag), "l": on_table("encoded_len_message"),
+            "x": lambda tag: index(self.source, tag), "l": lambda count: on_table("encode_message")(count, *room(bytearray())),
             "m": self.read("read_message"), "M": self.read("read_message", summed=True), "r": self.read("read_payload"),
             "w": self.write("encode_message"), "W": self.write("encode_message", summed=True),
             "q": self.write("prepend_message"), "Q": self.write("prepend_message", summed=True),
@@ -87,7 +87,7 @@ class Replay:
         def answer(count, size):
             buf = bytearray(b"\xA5" * size)
             number, start, length = call(name, *lent(self.source), *self.lent_table(), count, *room(buf))
-            rest = [total(buf)] if summed else shown(buf, 0 if number else start, length, 0xA5)
+            rest = [total(buf)] if summed else shown(buf, *((0, 0) if number else (start, length)), 0xA5)
             return [number, start, length, *rest]
         return answer
 

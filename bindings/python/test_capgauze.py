@@ -37,9 +37,10 @@ class Refusals(unittest.TestCase):
         self.refused(3, capgauze.decode_key, bytes.fromhex("FCFEFEFE3E"), 0, 5, 1, tag=1, type=0, place=0)
         self.refused(4, read, bytes(capgauze.LIMIT + 1), one, 0, 0, place=0, count=0)
         self.refused(5, read, b"\x04\x07\x00\x08", one, place=0, count=2)
-        self.refused(6, capgauze.encoded_len_message, b"", one, 2, start=1, length=0)
+        self.refused(5, capgauze.prepend_message, b"", one, 1, bytearray(1), start=0, needed=2)
+        self.refused(6, capgauze.encode_message, b"", one, 2, bytearray(), start=1, needed=0)
         self.refused(6, capgauze.decode_value, b"", 9, 9, 4, value=0, length=0, place=9)
-        self.refused(7, capgauze.encode_message, b"", two, 2, bytearray(9), start=1, length=0)
+        self.refused(7, capgauze.encode_message, b"", two, 2, bytearray(9), start=1, needed=0)
         self.refused(8, read, b"\x04\x07", one, 0, 3, place=0, count=0)
         self.assertEqual(one, array("Q", (1, 0, 7, 0)))
 
@@ -64,6 +65,11 @@ class Messages(unittest.TestCase):
         self.assertEqual(capgauze.message(records, MESSAGE), MESSAGE)
         self.assertEqual(capgauze.records(b""), [])
         self.assertEqual(capgauze.message([]), b"")
+        for length in (253, 254, 300, 5_000):  # around the buffer that is tried first, and above it
+            source = bytes(i % 251 for i in range(length))
+            head = bytearray(2)
+            capgauze.encode_varint(length, head)
+            self.assertEqual(capgauze.message([(0, 1, 0, length)], source), b"\x01" + head + source)
 
     def test_any_bytes(self):
         for kind in (bytes, bytearray, memoryview, lambda s: array("B", s)):

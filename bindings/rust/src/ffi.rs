@@ -48,7 +48,6 @@ extern "C" {
     pub fn capgauze_read_payload(s: *const u8, len: usize, tag: u64, kind: u64, value: u64, length: u64, table: *mut u64, words: usize) -> Read;
     pub fn capgauze_encode_message(source: *const u8, len: usize, table: *const u64, words: usize, count: usize, buf: *mut u8, buf_len: usize) -> Written;
     pub fn capgauze_prepend_message(source: *const u8, len: usize, table: *const u64, words: usize, count: usize, buf: *mut u8, buf_len: usize) -> Written;
-    pub fn capgauze_encoded_len_message(source: *const u8, len: usize, table: *const u64, words: usize, count: usize) -> Written;
     pub fn capgauze_insert(source: *const u8, len: usize, table: *mut u64, words: usize, count: usize, tag: u64, kind: u64, value: u64, length: u64) -> Number;
     pub fn capgauze_pick(s: *const u8, len: usize, tag: u32) -> Picked;
     pub fn capgauze_pick_at(s: *const u8, len: usize, tag: u32, number: usize) -> Several;

@@ -1,6 +1,4 @@
 //! An index that owns its words.
-extern crate alloc;
-
 use crate::*;
 use alloc::{string::String, vec, vec::Vec};
 

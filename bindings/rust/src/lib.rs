@@ -30,9 +30,14 @@
 
 mod ffi;
 #[cfg(feature = "alloc")]
+extern crate alloc;
+
+#[cfg(feature = "alloc")]
 mod index;
 mod types;
 
+#[cfg(feature = "alloc")]
+use alloc::{vec, vec::Vec};
 #[cfg(feature = "alloc")]
 pub use index::Index;
 pub use types::*;
@@ -118,7 +123,7 @@ fn written(answer: ffi::Written) -> Result<Written, RefusedWrite> {
     let (start, length) = (answer.start as usize, answer.length as usize);
     match accepted(answer.number) {
         Ok(()) => Ok(Written { start, length }),
-        Err(refusal) => Err(RefusedWrite { refusal, index: start, length }),
+        Err(refusal) => Err(RefusedWrite { refusal, index: start, needed: length }),
     }
 }
 
@@ -603,7 +608,7 @@ pub fn key_len(last: u32, tag: u32) -> Result<usize, Refusal> {
 
 /// Writes the table's first `count` records as a message to the buffer's front; payloads are taken from the source.
 /// Refusals in order: TooLong for the source; BadRecord for a count above the room; from the first record on BadRecord,
-/// then OutOfOrder; TooLong for the output; NoRoom.
+/// then OutOfOrder; TooLong for the output; NoRoom, with the length needed.
 ///
 /// ```
 /// # use capgauze::{encode_message, Written};
@@ -611,6 +616,7 @@ pub fn key_len(last: u32, tag: u32) -> Result<usize, Refusal> {
 /// let mut buf = [0xAA; 7];
 /// assert_eq!(encode_message(b"hi", &table, 2, &mut buf), Ok(Written { start: 0, length: 6 }));
 /// assert_eq!(buf, [0x04, 0x07, 0x09, 0x02, b'h', b'i', 0xAA]);
+/// assert_eq!(encode_message(b"hi", &table, 2, &mut []).unwrap_err().needed, 6);
 /// ```
 pub fn encode_message(
     source: &[u8],
@@ -639,23 +645,28 @@ pub fn prepend_message(
     write_by(ffi::capgauze_prepend_message, source, table, count, buf)
 }
 
-/// The length of that message; nothing is written. Refusals as [`encode_message`]'s, without NoRoom.
+/// The message of these records, their payloads taken from the source. Refusals as [`encode_message`]'s, without NoRoom.
 ///
 /// ```
-/// # use capgauze::{encoded_len_message, Refusal};
-/// let table = [1, 0, 7, 0, 0, 0, 7, 0];
-/// assert_eq!(encoded_len_message(b"", &table, 1), Ok(2));
-/// let refused = encoded_len_message(b"", &table, 2).unwrap_err();
-/// assert_eq!((refused.refusal, refused.index), (Refusal::OutOfOrder, 1));
+/// # use capgauze::{message, Field, Value};
+/// let level = Field { tag: 3, value: Value::LengthDelimited { start: 0, length: 2 } };
+/// assert_eq!(message(&[level.into()], b"hi"), Ok(vec![0x0D, 0x02, b'h', b'i']));
 /// ```
-pub fn encoded_len_message(
-    source: &[u8],
-    table: &[u64],
-    count: usize,
-) -> Result<usize, RefusedWrite> {
-    let (s, len, from, words) = (source.as_ptr(), source.len(), table.as_ptr(), table.len());
-    let answer = unsafe { ffi::capgauze_encoded_len_message(s, len, from, words, count) };
-    written(answer).map(|written| written.length)
+#[cfg(feature = "alloc")]
+pub fn message(records: &[Record], source: &[u8]) -> Result<Vec<u8>, RefusedWrite> {
+    let words = |record: &Record| [record.tag, record.wire_type, record.value, record.length];
+    let table: Vec<u64> = records.iter().flat_map(words).collect();
+    let mut buf = vec![0; 256];
+    let first = encode_message(source, &table, records.len(), &mut buf);
+    let written = match first {
+        Err(RefusedWrite { refusal: Refusal::NoRoom, needed, .. }) => {
+            buf = vec![0; needed];
+            encode_message(source, &table, records.len(), &mut buf)?
+        }
+        answer => answer?,
+    };
+    buf.truncate(written.length);
+    Ok(buf)
 }
 
 /// Puts a record behind all of equal or lower tag among the table's first `count`; later ones move up one. The new count.

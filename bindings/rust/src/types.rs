@@ -249,8 +249,9 @@ refusals! {
     /// that one passed the end (the start, if no field was read). With NoRoom the count is the number of fields that need
     /// room; all else is 0.
     RefusedRead { place: usize, count: usize }
-    /// Writing or measuring was refused: at the record's index, or the room, where the count is above it; else 0.
-    RefusedWrite { index: usize, length: usize }
+    /// Writing was refused: at the record's index, or the room, where the count is above it; else 0. With NoRoom the length
+    /// that is needed; else 0.
+    RefusedWrite { index: usize, needed: usize }
     /// An insertion was refused: at a record's index, the room where the count is above it, the count where the new record
     /// is not good; else 0.
     RefusedInsert { index: usize }

@@ -39,7 +39,7 @@ fn empty_slices() {
     assert_eq!(prepend_varint(0, &mut []), Err(Refusal::NoRoom));
     assert_eq!(encode_message(&[], &[], 0, &mut []), Ok(Written { start: 0, length: 0 }));
     assert_eq!(prepend_message(&[], &[], 0, &mut [1, 2]), Ok(Written { start: 2, length: 0 }));
-    assert_eq!(encoded_len_message(&[], &[], 0), Ok(0));
+    assert_eq!(message(&[], &[]), Ok(vec![]));
     let full = RefusedInsert { refusal: Refusal::NoRoom, index: 0 };
     assert_eq!(insert(&[], &mut [], 0, Record::default()), Err(full));
     let empty = Record { tag: 0, wire_type: 1, value: 0, length: 0 };
@@ -80,8 +80,8 @@ fn written_alike(write: Writer, back: bool, table: &[u64], count: usize, buf_len
     if count > room || 2 * count > buf_len {
         let bad = count > room;
         let refusal = if bad { Refusal::BadRecord } else { Refusal::NoRoom };
-        let index = if bad { room } else { 0 };
-        assert_eq!(answer, Err(RefusedWrite { refusal, index, length: 0 }));
+        let (index, needed) = if bad { (room, 0) } else { (0, 2 * count) };
+        assert_eq!(answer, Err(RefusedWrite { refusal, index, needed }));
     } else {
         let (start, length) = (if back { buf_len - 2 * count } else { 0 }, 2 * count);
         assert_eq!(answer, Ok(Written { start, length }));
@@ -170,7 +170,7 @@ fn the_limit() {
     assert_eq!(decode_varint(&message, 5), Err(RefusedAt { refusal, place: 5 }));
     assert_eq!(pick(&message, 0), Err(refusal));
     assert_eq!(pick_early(&message, 0), Err(refusal));
-    let refused = RefusedWrite { refusal, index: 0, length: 0 };
+    let refused = RefusedWrite { refusal, index: 0, needed: 0 };
     assert_eq!(encode_message(&message, &table, 0, &mut buf), Err(refused));
     assert_eq!(
         insert(&message, &mut table, 0, Record::default()),
@@ -187,17 +187,23 @@ fn the_limit() {
 
     // 1 byte of key, 3 of length: a payload of 1,048,571 bytes is the longest
     let payload = |length| [0, 1, 0, length];
-    assert_eq!(encoded_len_message(&message[..LIMIT], &payload(1_048_571), 1), Ok(LIMIT));
     assert_eq!(
-        encoded_len_message(&message[..LIMIT], &payload(1_048_572), 1),
+        encode_message(&message[..LIMIT], &payload(1_048_571), 1, &mut []),
+        Err(RefusedWrite { refusal: Refusal::NoRoom, index: 0, needed: LIMIT })
+    );
+    assert_eq!(
+        encode_message(&message[..LIMIT], &payload(1_048_572), 1, &mut []),
         Err(refused_too_long())
     );
     // payloads of gigabytes, all told, and a bad record behind them
     let mut table = payload(LIMIT as u64).repeat(5_000);
-    assert_eq!(encoded_len_message(&message[..LIMIT], &table, 5_000), Err(refused_too_long()));
+    assert_eq!(
+        encode_message(&message[..LIMIT], &table, 5_000, &mut []),
+        Err(refused_too_long())
+    );
     table[4 * 5_000 - 1] += 1;
-    let bad = RefusedWrite { refusal: Refusal::BadRecord, index: 4_999, length: 0 };
-    assert_eq!(encoded_len_message(&message[..LIMIT], &table, 5_000), Err(bad));
+    let bad = RefusedWrite { refusal: Refusal::BadRecord, index: 4_999, needed: 0 };
+    assert_eq!(encode_message(&message[..LIMIT], &table, 5_000, &mut []), Err(bad));
 }
 
 /// The fields of the longest messages that have the most of them.
@@ -222,7 +228,7 @@ fn the_longest_on_a_small_stack() {
 }
 
 fn refused_too_long() -> RefusedWrite {
-    RefusedWrite { refusal: Refusal::TooLong, index: 0, length: 0 }
+    RefusedWrite { refusal: Refusal::TooLong, index: 0, needed: 0 }
 }
 
 /// The index of MESSAGE, and a word behind it.

@@ -337,7 +337,7 @@ impl Against {
         );
     }
 
-    /// A table by chance, good or spoilt, written, measured and inserted into.
+    /// A table by chance, good or spoilt, written and inserted into.
     fn table(&mut self) {
         let len = self.chance.below(30);
         let source = self.chance.bytes(len);
@@ -375,23 +375,22 @@ impl Against {
         self.payload(&source, new);
     }
 
-    /// Both writers and measuring.
+    /// Both writers, into a buffer of some length and into none.
     fn write(&mut self, source: &[u8], table: &[u64], count: usize, room: usize) {
-        let refused = |(refusal, index)| RefusedWrite { refusal, index, length: 0 };
+        let refused = |(refusal, index)| RefusedWrite { refusal, index, needed: 0 };
         let bytes = tested(source, table, count).and_then(|records| {
             let (forward, prepended, len) = Blob::write(source, &records);
             assert!(forward == prepended && forward.len() == len);
             (len <= LIMIT).then_some(forward).ok_or((Refusal::TooLong, 0))
         });
-        let len = bytes.as_ref().map(Vec::len).map_err(|&told| refused(told));
-        same!(self, encoded_len_message(source, table, count), len, source, table, count);
-
-        for back in [false, true] {
+        for (back, room) in [(false, room), (true, room), (false, 0), (true, 0)] {
             let mut buf = vec![0xA5; room];
             let mut expected = buf.clone();
             let theirs = match &bytes {
                 Err(told) => Err(refused(*told)),
-                Ok(bytes) if bytes.len() > room => Err(refused((Refusal::NoRoom, 0))),
+                Ok(bytes) if bytes.len() > room => {
+                    Err(RefusedWrite { refusal: Refusal::NoRoom, index: 0, needed: bytes.len() })
+                }
                 Ok(bytes) => {
                     let (start, length) = (if back { room - bytes.len() } else { 0 }, bytes.len());
                     expected[start..][..length].copy_from_slice(bytes);
