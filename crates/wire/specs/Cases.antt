@@ -5,6 +5,7 @@ use mathlib.Core.List.{List, [], _∷_, _++_}
 use lib.ListN.{length, replicate}
 use Rattle.wire.specs.Varint.{encode}
 use Rattle.wire.specs.Reading.{varintAt, fieldAt, Message, Fields, Refused, readMessage}
+use Rattle.wire.specs.Faults.{looks}
 use Rattle.wire.specs.Skipping.{pastAt, skipAt}
 use Rattle.wire.specs.declared.Refusal.the-variants.{Truncated, InvalidVarint, TagOverflowed}
 use Rattle.wire.specs.declared.WireType.{WireType}
@@ -60,7 +61,7 @@ messages =
     ∷ Reads (0x00 ∷ replicate 9 0xff) 0 5 (Refused Truncated 0)
     ∷ Reads (0x00 ∷ replicate 9 0xff) 0 10 (Refused InvalidVarint 0)
     ∷ Reads (0x01 ∷ replicate 9 0xff) 0 5 (Refused InvalidVarint 0)
-    ∷ Skips (0x01 ∷ replicate 9 0xff) 5 1 wireType.LengthDelimited (reached.Refused Truncated)
+    ∷ Skips (0x01 ∷ replicate 9 0xff) 5 1 wireType.LengthDelimited (reached.Refused Truncated (record { place = 1; bytes = 9 }))
     ∷ Skips (0x05 ∷ 0x00 ∷ 0x06 ∷ 0x04 ∷ 0x07 ∷ []) 5 0 wireType.Varint (reached.To 3)
     ∷ []
 
@@ -81,7 +82,7 @@ edges =
     ∷ Reads (0x06 ∷ 0x01 ∷ 0x02 ∷ 0x00 ∷ 0x00 ∷ []) 0 5 (Fields (record { tag = 1; value = val.ThirtyTwoBit 513 } ∷ []))
     ∷ Skips (0x02 ∷ 0x00 ∷ 0x00 ∷ []) 1 0 wireType.LengthDelimited (reached.To 3)
     ∷ Skips (0x00 ∷ 0x00 ∷ 0x00 ∷ 0x00 ∷ []) 1 0 wireType.ThirtyTwoBit (reached.To 4)
-    ∷ Skips (0x00 ∷ 0x01 ∷ 0x05 ∷ []) 3 0 wireType.Varint (reached.Refused Truncated)
+    ∷ Skips (0x00 ∷ 0x01 ∷ 0x05 ∷ []) 3 0 wireType.Varint (reached.Refused Truncated (record { place = 2; bytes = 0 }))
     ∷ Skips (0x05 ∷ 0x00 ∷ 0x06 ∷ 0x04 ∷ 0x07 ∷ []) 1 0 wireType.Varint (reached.To 1)
     ∷ Skips (0x05 ∷ []) 0 0 wireType.Varint (reached.To 1)
     ∷ []
@@ -95,15 +96,15 @@ joined [] ys h g = g
 joined (x ∷ xs) ys h g = (h .0, joined xs ys (h .1) g)
 
 numbers-right : All Right numbers
-unfolding encode varintAt fieldAt readMessage pastAt skipAt
+unfolding encode varintAt fieldAt readMessage looks pastAt skipAt
 numbers-right = ((refl, refl), ((refl, refl), ((refl, refl), ((refl, refl), ((refl, refl), ((refl, refl), ((refl, refl), (refl, tt))))))))
 
 messages-right : All Right messages
-unfolding encode varintAt fieldAt readMessage pastAt skipAt
+unfolding encode varintAt fieldAt readMessage looks pastAt skipAt
 messages-right = (refl, (refl, (refl, (refl, (refl, (refl, (refl, (refl, (refl, (refl, (refl, tt)))))))))))
 
 edges-right : All Right edges
-unfolding encode varintAt fieldAt readMessage pastAt skipAt
+unfolding encode varintAt fieldAt readMessage looks pastAt skipAt
 edges-right = (refl, (refl, (refl, (refl, (refl, (refl, (refl, (refl, (refl, (refl, (refl, (refl, (refl, (refl, (refl, (refl, (refl, tt)))))))))))))))))
 
 -- THE CASES ARE RIGHT: each is computed

@@ -9,6 +9,7 @@ pub mod Fixed
 pub mod Signed
 pub mod Written
 pub mod Reading
+pub mod Faults
 pub mod Skipping
 pub mod Types
 pub mod Places

@@ -45,6 +45,12 @@ pub struct Record {
     pub length: u64,
 }
 
+// Where a read that failed began, and how many bytes of a varint it looked at: 0 where it was no varint's. Both are 0 where no read failed.
+pub struct Fault {
+    pub place: usize,
+    pub bytes: usize,
+}
+
 pub enum Refusal {
     Truncated,
     InvalidVarint,
@@ -103,10 +109,10 @@ pub enum FieldFound {
     Refused(Refusal),
 }
 
-// The place that skipping reaches.
+// The place that skipping reaches, or why it does not and where the read failed.
 pub enum Reached {
     To(usize),
-    Refused(Refusal),
+    Refused(Refusal, Fault),
 }
 
 // One step of a message.
@@ -116,10 +122,10 @@ pub enum Stepped {
     Refused(Refusal),
 }
 
-// What a message reader answers: the end and the number of fields, or a refusal, its place and a count.
+// What a message reader answers: the end and the number of fields, or a refusal, its place, a count, and where the read failed.
 pub enum Read {
     Accepted(usize, usize),
-    Refused(Refusal, usize, usize),
+    Refused(Refusal, usize, usize, Fault),
 }
 
 // What a search from the front answers: the only field of a tag or that there is none, and the number of keys read; or why not.

@@ -1,0 +1,4 @@
+pub mod Fault
+pub mod Short
+pub mod Inside
+pub mod Cases
