@@ -7,6 +7,7 @@ use borrow.Author.Tests.{le-leb, lt-leb, leb-true}
 use lib.Dec.{leb}
 use Rattle.wire.specs.Choose.{choose}
 use Rattle.wire.specs.Limits.{messageLimit}
+use Rattle.wire.specs.Numbers.{numberOf}
 use Rattle.wire.specs.declared.Refusal.{Refusal}
 use Rattle.wire.specs.declared.Refusal.the-variants.{TooLong, BadCap}
 use Rattle.entry_answer.specs.declared.Gated.{Gated}
@@ -58,3 +59,20 @@ gated-opens n at e h = go (leb n messageLimit) refl (leb at n) refl (leb e n) re
     go true a true b false c = absurd (omega (arith, ap shuts (rw (a, b, c) at h)))
     go true a false b c x = absurd (omega (arith, ap shuts (rw (a, b) at h)))
     go false a b x c y = absurd (omega (arith, ap shuts (rw a at h)))
+
+-- a shut gate: TooLong or BadCap
+pub gated-number : (n at e : ℕ) (r : Refusal) → gated n at e ≡ Shut r → 4 ≤ numberOf r
+unfolding gated shuts
+gated-number n at e r h = go (leb n messageLimit) refl (leb at n) refl (leb e n) refl
+  where
+    bad-cap : Shut BadCap ≡ Shut r → 4 ≤ numberOf r
+    bad-cap z = let y : r ≡ BadCap = cc in rw y (omega arith)
+
+    too-long : Shut TooLong ≡ Shut r → 4 ≤ numberOf r
+    too-long z = let y : r ≡ TooLong = cc in rw y (omega arith)
+
+    go : (a : Bool) → leb n messageLimit ≡ a → (b : Bool) → leb at n ≡ b → (c : Bool) → leb e n ≡ c → 4 ≤ numberOf r
+    go true a true b true c = absurd (omega (arith, ap shuts (rw (a, b, c) at h)))
+    go true a true b false c = bad-cap (rw (a, b, c) at h)
+    go true a false b c x = bad-cap (rw (a, b) at h)
+    go false a b x c y = too-long (rw a at h)

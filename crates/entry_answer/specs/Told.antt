@@ -1,4 +1,4 @@
--- The number (rule R1) and the values of each case of each answer; what a refusal carries (rules R4, R5, R7 and R8).
+-- The number (rule R1) and the values of each case of each answer; what a refusal carries (rules R4, R5, R7, R8 and F6). What is accepted has no fault.
 use Prim.Native.Nat.{ℕ}
 use Rattle.wire.specs.Numbers.{numberOf, kindOf}
 use Rattle.wire.specs.Table.{kindWord, valueWord, lengthWord}
@@ -42,14 +42,16 @@ abbrev pub putTold : Put → Number
 putTold (put.Done n) = record { number = 0; value = n }
 putTold (put.Refused r) = record { number = numberOf r; value = 0 }
 
+-- Rules R5 and F1: a varint: refused, how many bytes it looked at
 pub record Varint : Type 0 where
   pub number : ℕ
   pub value : ℕ
   pub place : ℕ
+  pub bytes : ℕ
 
 abbrev pub varintTold : VarintRead → Varint
-varintTold (varintRead.Got v q) = record { number = 0; value = v; place = q }
-varintTold (varintRead.Refused r p) = record { number = numberOf r; value = 0; place = p }
+varintTold (varintRead.Got v q) = record { number = 0; value = v; place = q; bytes = 0 }
+varintTold (varintRead.Refused r p n) = record { number = numberOf r; value = 0; place = p; bytes = n }
 
 abbrev pub keyLenTold : KeyLength → Number
 keyLenTold (measured.Length n) = record { number = 0; value = n }
@@ -61,10 +63,12 @@ pub record Key : Type 0 where
   pub tag : ℕ
   pub kind : ℕ
   pub place : ℕ
+  pub failing : ℕ
+  pub bytes : ℕ
 
 abbrev pub keyTold : KeyRead → Key
-keyTold (keyRead.Got k q) = record { number = 0; tag = k .tag; kind = kindOf (k .wire); place = q }
-keyTold (keyRead.Refused r p last) = record { number = numberOf r; tag = last; kind = 0; place = p }
+keyTold (keyRead.Got k q) = record { number = 0; tag = k .tag; kind = kindOf (k .wire); place = q; failing = 0; bytes = 0 }
+keyTold (keyRead.Refused r p last f) = record { number = numberOf r; tag = last; kind = 0; place = p; failing = f .place; bytes = f .bytes }
 
 -- Rules R5 and T1: a value's two words are a record's
 pub record Value : Type 0 where
@@ -72,19 +76,23 @@ pub record Value : Type 0 where
   pub value : ℕ
   pub length : ℕ
   pub place : ℕ
+  pub failing : ℕ
+  pub bytes : ℕ
 
 abbrev pub valueTold : ValueRead → Value
-valueTold (valueRead.Got v q) = record { number = 0; value = valueWord v; length = lengthWord v; place = q }
-valueTold (valueRead.Refused r p) = record { number = numberOf r; value = 0; length = 0; place = p }
+valueTold (valueRead.Got v q) = record { number = 0; value = valueWord v; length = lengthWord v; place = q; failing = 0; bytes = 0 }
+valueTold (valueRead.Refused r p f) = record { number = numberOf r; value = 0; length = 0; place = p; failing = f .place; bytes = f .bytes }
 
 -- Rule R5: a place reached
 pub record Place : Type 0 where
   pub number : ℕ
   pub place : ℕ
+  pub failing : ℕ
+  pub bytes : ℕ
 
 abbrev pub skippedTold : Skipped → Place
-skippedTold (skipped.To q) = record { number = 0; place = q }
-skippedTold (skipped.Refused r p) = record { number = numberOf r; place = p }
+skippedTold (skipped.To q) = record { number = 0; place = q; failing = 0; bytes = 0 }
+skippedTold (skipped.Refused r p f) = record { number = numberOf r; place = p; failing = f .place; bytes = f .bytes }
 
 -- Rules R5 and R9: a step from a place after a last tag: at the end both are as they were given
 pub record Field : Type 0 where
@@ -95,12 +103,25 @@ pub record Field : Type 0 where
   pub value : ℕ
   pub length : ℕ
   pub place : ℕ
+  pub failing : ℕ
+  pub bytes : ℕ
 
 abbrev pub stepTold : ℕ → ℕ → Step → Field
 stepTold at last (step.Field f q) =
-    record { number = 0; found = 1; tag = f .tag; kind = kindWord (f .value); value = valueWord (f .value); length = lengthWord (f .value); place = q }
-stepTold at last step.End = record { number = 0; found = 0; tag = last; kind = 0; value = 0; length = 0; place = at }
-stepTold at last (step.Refused r p t) = record { number = numberOf r; found = 0; tag = t; kind = 0; value = 0; length = 0; place = p }
+    record {
+      number = 0;
+      found = 1;
+      tag = f .tag;
+      kind = kindWord (f .value);
+      value = valueWord (f .value);
+      length = lengthWord (f .value);
+      place = q;
+      failing = 0;
+      bytes = 0;
+    }
+stepTold at last step.End = record { number = 0; found = 0; tag = last; kind = 0; value = 0; length = 0; place = at; failing = 0; bytes = 0 }
+stepTold at last (step.Refused r p t f) =
+    record { number = numberOf r; found = 0; tag = t; kind = 0; value = 0; length = 0; place = p; failing = f .place; bytes = f .bytes }
 
 -- Rule M9: whether there is more: 1 before the end, 0 at it
 abbrev pub moreTold : More → Number
@@ -113,10 +134,12 @@ pub record Message : Type 0 where
   pub number : ℕ
   pub place : ℕ
   pub count : ℕ
+  pub failing : ℕ
+  pub bytes : ℕ
 
 abbrev pub readTold : Read → Message
-readTold (read.Accepted p n) = record { number = 0; place = p; count = n }
-readTold (read.Refused r p n) = record { number = numberOf r; place = p; count = n }
+readTold (read.Accepted p n) = record { number = 0; place = p; count = n; failing = 0; bytes = 0 }
+readTold (read.Refused r p n f) = record { number = numberOf r; place = p; count = n; failing = f .place; bytes = f .bytes }
 
 -- Rules R8 and R9: a field that was looked for: whether it was found, its type, and its value as a record has it
 pub record Pick : Type 0 where

@@ -1,6 +1,7 @@
 // What a caller is told: the answers of every entry, and what each reader tests first. What an answer is worth in numbers stands in specs/Told.
 ghost use mathlib.Core.Path.{_≡_};
 ghost use Rattle.entry_answer.specs.Gate.{gated};
+use wire::Fault;
 use wire::Field;
 use wire::Key;
 use wire::Refusal;
@@ -18,35 +19,35 @@ pub enum Put {
     Refused(Refusal),
 }
 
-// A number and the place after it, or a refusal and the place given.
+// A number and the place after it, or a refusal, the place given and how many bytes were looked at.
 pub enum VarintRead {
     Got(u64, usize),
-    Refused(Refusal, usize),
+    Refused(Refusal, usize, usize),
 }
 
-// A key and the place after it, or a refusal, the place and the last tag given.
+// A key and the place after it, or a refusal, the place and the last tag given, and where the read failed.
 pub enum KeyRead {
     Got(Key, usize),
-    Refused(Refusal, usize, u32),
+    Refused(Refusal, usize, u32, Fault),
 }
 
-// A value and the place after it, or a refusal and the place given.
+// A value and the place after it, or a refusal, the place given, and where the read failed.
 pub enum ValueRead {
     Got(Value, usize),
-    Refused(Refusal, usize),
+    Refused(Refusal, usize, Fault),
 }
 
-// The place reached, or a refusal and the place given.
+// The place reached, or a refusal, the place given, and where the read failed.
 pub enum Skipped {
     To(usize),
-    Refused(Refusal, usize),
+    Refused(Refusal, usize, Fault),
 }
 
-// A field and the place after it, or the end, or a refusal, the place and the last tag given.
+// A field and the place after it, or the end, or a refusal, the place and the last tag given, and where the read failed.
 pub enum Step {
     Field(Field, usize),
     End,
-    Refused(Refusal, usize, u32),
+    Refused(Refusal, usize, u32, Fault),
 }
 
 // A length, or why there is none.

@@ -19,6 +19,7 @@ use Rattle.wire.specs.Table.{room, filled}
 use Rattle.write_message.specs.Writing.{Writes, plan, Writing, front, back}
 use Rattle.write_message.specs.WritingLaws.{into-writes}
 use Rattle.write_message.specs.ReadBack.{table-plan}
+use Rattle.wire.specs.declared.Fault.{Fault}
 use Rattle.wire.specs.declared.Refusal.{Refusal}
 use Rattle.wire.specs.declared.Refusal.the-variants.{NoRoom}
 use Rattle.wire.specs.declared.Read.{Read}
@@ -56,7 +57,7 @@ copiedBy s t f b (read.Accepted e n) u =
     (record { answer = copiedAs.Fields n; table = u; front = s ++ drop (length s) f; back = take (length b - length s) b ++ s })
     (stays NoRoom t f b))
     (stays NoRoom t f b)
-copiedBy s t f b (read.Refused r p n) u = stays r t f b
+copiedBy s t f b (read.Refused r p n x) u = stays r t f b
 
 -- the whole message is read first
 unfoldable pub copied : List ℕ → List ℕ → List ℕ → List ℕ → Copying
@@ -111,7 +112,7 @@ module _ (s t f b : List ℕ) where
 -- the table is to be written as the message, or is as it was
 abbrev pub Left : List ℕ → List ℕ → Read → List ℕ → Type 0
 Left s t (read.Accepted e n) u = plan messageLimit s u n ≡ Writes s
-Left s t (read.Refused r p n) u = u ≡ t
+Left s t (read.Refused r p n x) u = u ≡ t
 
 whole : (m : List ℕ) → part m 0 (length m) ≡ m
 whole m = let e : length m - 0 ≡ length m = omega arith in ap (λ (n : ℕ). take n m) e ∙ take-length m
@@ -162,11 +163,12 @@ module _ (s t f b : List ℕ) (bytes : Bytes s) (h : length s ≤ length f) (g :
   same : (y : Read) → x ≡ y → outcome y u ≡ readEntry s 0 (length s) t
   same y q = ap (λ (z : Read). outcome z u) (sym q) ∙ e
 
-  pub copy-refused : (r : Refusal) (p n : ℕ) → x ≡ read.Refused r p n → record { answer = copiedAs.Refused r; table = u; front = f; back = b } ≡ copied s t f b
-  copy-refused r p n q =
-      let w = same (read.Refused r p n) q in
-      let z : u ≡ t = left-by s t bytes (read.Refused r p n) u w in
-      ap (λ (v : List ℕ). stays r v f b) z ∙ sym (copied-read s t f b (read.Refused r p n) u w)
+  pub copy-refused : (r : Refusal) (p n : ℕ) (i : Fault) → x ≡ read.Refused r p n i
+      → record { answer = copiedAs.Refused r; table = u; front = f; back = b } ≡ copied s t f b
+  copy-refused r p n i q =
+      let w = same (read.Refused r p n i) q in
+      let z : u ≡ t = left-by s t bytes (read.Refused r p n i) u w in
+      ap (λ (v : List ℕ). stays r v f b) z ∙ sym (copied-read s t f b (read.Refused r p n i) u w)
 
   pub copy-done : (end n : ℕ) → x ≡ read.Accepted end n → (w v : Writing) → w ≡ encodeMessage s u n f → v ≡ prependMessage s u n b
       → record { answer = copiedAs.Fields n; table = u; front = w .buf; back = v .buf } ≡ copied s t f b

@@ -38,7 +38,7 @@ pub fn copy_message(s: &[u8], table: &mut [u64], front: &mut [u8], back: &mut [u
         return not_copied(s);
     }
     match entry_message::read_message(s, 0, s.len(), table) {
-        Read::Refused(r, _, _) => Copied::Refused(r),
+        Read::Refused(r, _, _, _) => Copied::Refused(r),
         Read::Accepted(_, n) => {
             entry_write::encode_message(s, table, n, front);
             entry_write::prepend_message(s, table, n, back);

@@ -7,6 +7,7 @@ use entry_answer::More;
 use entry_answer::Skipped;
 use entry_answer::Step;
 use entry_answer::ValueRead;
+use wire::Fault;
 use wire::Field;
 use wire::Reached;
 use wire::Refusal;
@@ -19,11 +20,12 @@ pub fn decode_value(s: &[u8], at: usize, end: usize, wire: WireType) -> ValueRea
     ensures { λ r. ⌜ r ≡ decodeValue (now (s .entry)) at end wire ⌝ }
 {
     if let Gated::Shut(r) = entry_answer::gate(s.len(), at, end) {
-        return ValueRead::Refused(r, at);
+        let nowhere = Fault { place: 0, bytes: 0 };
+        return ValueRead::Refused(r, at, nowhere);
     }
     match field_value::decode_value(s, at, end, wire) {
         ValueFound::Got(v, next) => ValueRead::Got(v, next),
-        ValueFound::Refused(r) => ValueRead::Refused(r, at),
+        ValueFound::Refused(r) => ValueRead::Refused(r, at, fault::value_fault(s, at, wire)),
     }
 }
 
@@ -32,11 +34,12 @@ pub fn skip_field(s: &[u8], at: usize, end: usize, wire: WireType) -> Skipped
     ensures { λ r. ⌜ r ≡ skipField (now (s .entry)) at end wire ⌝ }
 {
     if let Gated::Shut(r) = entry_answer::gate(s.len(), at, end) {
-        return Skipped::Refused(r, at);
+        let nowhere = Fault { place: 0, bytes: 0 };
+        return Skipped::Refused(r, at, nowhere);
     }
     match field_skip::skip_field(s, at, end, wire) {
         Reached::To(q) => Skipped::To(q),
-        Reached::Refused(r) => Skipped::Refused(r, at),
+        Reached::Refused(r, f) => Skipped::Refused(r, at, f),
     }
 }
 
@@ -45,12 +48,13 @@ pub fn step_at(s: &[u8], at: usize, end: usize, last: u32) -> Step
     ensures { λ r. ⌜ r ≡ stepEntry (now (s .entry)) at end last ⌝ }
 {
     if let Gated::Shut(r) = entry_answer::gate(s.len(), at, end) {
-        return Step::Refused(r, at, last);
+        let nowhere = Fault { place: 0, bytes: 0 };
+        return Step::Refused(r, at, last, nowhere);
     }
     match field::step_from(s, at, end, last) {
         Stepped::Field(f, next) => Step::Field(f, next),
         Stepped::End => Step::End,
-        Stepped::Refused(r) => Step::Refused(r, at, last),
+        Stepped::Refused(r) => Step::Refused(r, at, last, fault::fault_at(s, at, end, r)),
     }
 }
 

@@ -1,6 +1,6 @@
--- The entries on keys: a refused reader answers the place and the last tag that it was given (rule R5).
+-- The entries on keys: a refused reader answers the place and the last tag that it was given (rule R5), and where the read failed (rules F2 and F6).
 use Prim.Native.Nat.{ℕ, _+_, _-_, _*_, _≤_, _<_}
-use mathlib.Core.Path.{_≡_}
+use mathlib.Core.Path.{_≡_, ap, _∙_, sym}
 use mathlib.Core.List.{List}
 use borrow.Author.Tests.{le-leb, lt-leb}
 use lib.Dec.{leb}
@@ -8,11 +8,17 @@ use lib.ListN.{length}
 use Rattle.wire.specs.Choose.{choose}
 use Rattle.wire.specs.Numbers.{kindOf}
 use Rattle.wire.specs.Varint.{encode}
+use Rattle.wire.specs.Faults.{nowhere}
 use Rattle.wire.specs.Reading.{keyAt}
+use Rattle.wire.specs.VarintLaws.{Bytes}
+use Rattle.wire.specs.declared.Fault.{Fault}
+use Rattle.wire.specs.declared.Refusal.{Refusal}
 use Rattle.wire.specs.declared.Refusal.the-variants.{OutOfOrder}
 use Rattle.wire.specs.declared.WireType.{WireType}
 use Rattle.wire.specs.declared.KeyFound.{KeyFound}
 use Rattle.wire.specs.declared.KeyFound.the-variants as keyFound
+use Rattle.fault.specs.Fault.{keyFault}
+use Rattle.fault.specs.Short.{keyShort, key-short}
 use Rattle.entry_answer.specs.Gate.{gated, through}
 use Rattle.entry_answer.specs.Stores.{Stored, atFront, atEnd}
 use Rattle.entry_answer.specs.declared.Put.the-variants as put
@@ -23,12 +29,17 @@ use Rattle.entry_answer.specs.declared.KeyLength.the-variants as measured
 
 -- ---- read
 
-abbrev pub keyAnswer : ℕ → ℕ → KeyFound → KeyRead
-keyAnswer at last (keyFound.Got k q) = keyRead.Got k q
-keyAnswer at last (keyFound.Refused r) = keyRead.Refused r at last
+abbrev pub keyAnswer : List ℕ → ℕ → ℕ → KeyFound → KeyRead
+keyAnswer s at last (keyFound.Got k q) = keyRead.Got k q
+keyAnswer s at last (keyFound.Refused r) = keyRead.Refused r at last (keyFault s at)
 
 unfoldable pub decodeKey : List ℕ → ℕ → ℕ → ℕ → KeyRead
-decodeKey s at e last = through (gated (length s) at e) (λ r. keyRead.Refused r at last) (keyAnswer at last (keyAt s e at last))
+decodeKey s at e last = through (gated (length s) at e) (λ r. keyRead.Refused r at last nowhere) (keyAnswer s at last (keyAt s e at last))
+
+-- a refusal, and where it failed by the short way
+pub key-refused : (s : List ℕ) (e at last : ℕ) {r : Refusal} {f : Fault} → Bytes s → f ≡ keyShort r (length s) at → keyAt s e at last ≡ keyFound.Refused r
+    → keyRead.Refused r at last f ≡ keyAnswer s at last (keyAt s e at last)
+key-refused s e at last {r} b h o = ap (keyRead.Refused r at last) (h ∙ sym (key-short s e at last r o b)) ∙ sym (ap (keyAnswer s at last) o)
 
 -- ---- written (rule E5): a tag below the last one is OutOfOrder, and the buffer stays (rule R8)
 

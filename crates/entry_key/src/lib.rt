@@ -5,6 +5,7 @@ use entry_answer::Gated;
 use entry_answer::KeyLength;
 use entry_answer::KeyRead;
 use entry_answer::Put;
+use wire::Fault;
 use wire::KeyFound;
 use wire::Refusal;
 use wire::WireType;
@@ -14,11 +15,12 @@ pub fn decode_key(s: &[u8], at: usize, end: usize, last: u32) -> KeyRead
     ensures { λ r. ⌜ r ≡ decodeKey (now (s .entry)) at end last ⌝ }
 {
     if let Gated::Shut(r) = entry_answer::gate(s.len(), at, end) {
-        return KeyRead::Refused(r, at, last);
+        let nowhere = Fault { place: 0, bytes: 0 };
+        return KeyRead::Refused(r, at, last, nowhere);
     }
     match field_key::decode_key(s, at, end, last) {
         KeyFound::Got(k, next) => KeyRead::Got(k, next),
-        KeyFound::Refused(r) => KeyRead::Refused(r, at, last),
+        KeyFound::Refused(r) => KeyRead::Refused(r, at, last, fault::key_fault(r, s.len(), at)),
     }
 }
 

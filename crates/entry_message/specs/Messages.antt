@@ -8,6 +8,7 @@ use lib.Dec.{eqb}
 use lib.ListN.{length, take, drop}
 use denote.Ref.{RefT, now}
 use Rattle.wire.specs.Choose.{choose}
+use Rattle.wire.specs.Faults.{nowhere}
 use Rattle.wire.specs.Limits.{messageLimit}
 use Rattle.wire.specs.Reading.{Message, Fields, readMessage}
 use Rattle.wire.specs.Reading as reading
@@ -34,9 +35,9 @@ use Rattle.entry_answer.specs.declared.Several.the-variants as severalAs
 
 -- ---- a message read into a table
 
--- Rule R4: TooLong and BadCap answer 0, 0, and leave the table
+-- Rules R4 and F6: TooLong and BadCap answer 0, 0 and no fault, and leave the table
 unfoldable pub readEntry : List ℕ → ℕ → ℕ → List ℕ → Outcome
-readEntry s start e t = through (gated (length s) start e) (λ r. outcome (Refused r 0 0) t) (readInto s start e t)
+readEntry s start e t = through (gated (length s) start e) (λ r. outcome (Refused r 0 0 nowhere) t) (readInto s start e t)
 
 pub entry-open : (s : List ℕ) (start e : ℕ) (t : List ℕ) → length s ≤ messageLimit → start ≤ length s → e ≤ length s
     → readEntry s start e t ≡ readInto s start e t

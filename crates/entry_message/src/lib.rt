@@ -6,6 +6,7 @@ use entry_answer::Picked;
 use entry_answer::Several;
 use message::Sought;
 use wire::Early;
+use wire::Fault;
 use wire::Read;
 use wire::Record;
 use wire::Refusal;
@@ -15,7 +16,8 @@ pub fn read_message(s: &[u8], start: usize, end: usize, table: &mut [u64]) -> Re
     ensures { λ r. ⌜ record { answer = r; table = now (table .exit) } ≡ readEntry (now (s .entry)) start end (now (table .entry)) ⌝ }
 {
     if let Gated::Shut(r) = entry_answer::gate(s.len(), start, end) {
-        return Read::Refused(r, 0, 0);
+        let nowhere = Fault { place: 0, bytes: 0 };
+        return Read::Refused(r, 0, 0, nowhere);
     }
     message_table::read_into(s, start, end, table)
 }

@@ -5,9 +5,11 @@ use mathlib.Core.Logic.{_⊎_, inl, inr}
 use mathlib.Core.List.{List, [], _∷_, _++_}
 use native.Mathlib.Omega.{arith}
 use lib.ListN.{length, length-append}
+use Rattle.wire.specs.Faults.{nowhere}
 use Rattle.wire.specs.Reading.{stepAt}
 use Rattle.wire.specs.ReadingLaws.{field-moves}
 use Rattle.wire.specs.StepBack.{step-field}
+use Rattle.wire.specs.declared.Fault.{Fault}
 use Rattle.wire.specs.declared.Refusal.{Refusal}
 use Rattle.wire.specs.declared.Field.{Field}
 use Rattle.wire.specs.declared.Stepped.{Stepped}
@@ -27,7 +29,7 @@ use Rattle.entry_reader.specs.declared.Counted.the-variants as countedAs
 way : Step → ℕ
 way (step.Field f q) = 0
 way step.End = 1
-way (step.Refused r p t) = 2
+way (step.Refused r p t f) = 2
 
 module _ (s : List ℕ) (p e last : ℕ) where
   field-of : (f : Field) (q : ℕ) → stepEntry s p e last ≡ step.Field f q → (gated (length s) p e ≡ Open) × (stepAt s e p last ≡ stepped.Field f q)
@@ -35,7 +37,7 @@ module _ (s : List ℕ) (p e last : ℕ) where
   field-of f q h = go (gated (length s) p e) refl (stepAt s e p last) refl h
     where
       go : (g : Gated) → gated (length s) p e ≡ g → (x : Stepped) → stepAt s e p last ≡ x
-          → through g (λ r. step.Refused r p last) (stepAnswer p last x) ≡ step.Field f q
+          → through g (λ r. step.Refused r p last nowhere) (stepAnswer s p e last x) ≡ step.Field f q
           → (gated (length s) p e ≡ Open) × (stepAt s e p last ≡ stepped.Field f q)
       go (Shut r) a x b i = absurd (omega (arith, ap way i))
       go Open a (stepped.Field g r) b i = let y : g ≡ f = cc in let z : r ≡ q = cc in (a, b ∙ cc)
@@ -47,20 +49,20 @@ module _ (s : List ℕ) (p e last : ℕ) where
   end-of h = go (gated (length s) p e) refl (stepAt s e p last) refl h
     where
       go : (g : Gated) → gated (length s) p e ≡ g → (x : Stepped) → stepAt s e p last ≡ x
-          → through g (λ r. step.Refused r p last) (stepAnswer p last x) ≡ step.End
+          → through g (λ r. step.Refused r p last nowhere) (stepAnswer s p e last x) ≡ step.End
           → (gated (length s) p e ≡ Open) × (stepAt s e p last ≡ stepped.End)
       go (Shut r) a x b i = absurd (omega (arith, ap way i))
       go Open a (stepped.Field g r) b i = absurd (omega (arith, ap way i))
       go Open a stepped.End b i = (a, b)
       go Open a (stepped.Refused r) b i = absurd (omega (arith, ap way i))
 
-  refusal-of : (r : Refusal) (at t : ℕ) → stepEntry s p e last ≡ step.Refused r at t
+  refusal-of : (r : Refusal) (at t : ℕ) (f : Fault) → stepEntry s p e last ≡ step.Refused r at t f
       → (gated (length s) p e ≡ Shut r) ⊎ ((gated (length s) p e ≡ Open) × (stepAt s e p last ≡ stepped.Refused r))
   unfolding stepEntry way
-  refusal-of r at t h = go (gated (length s) p e) refl (stepAt s e p last) refl h
+  refusal-of r at t f h = go (gated (length s) p e) refl (stepAt s e p last) refl h
     where
       go : (g : Gated) → gated (length s) p e ≡ g → (x : Stepped) → stepAt s e p last ≡ x
-          → through g (λ r. step.Refused r p last) (stepAnswer p last x) ≡ step.Refused r at t
+          → through g (λ r. step.Refused r p last nowhere) (stepAnswer s p e last x) ≡ step.Refused r at t f
           → (gated (length s) p e ≡ Shut r) ⊎ ((gated (length s) p e ≡ Open) × (stepAt s e p last ≡ stepped.Refused r))
       go (Shut y) a x b i = let z : y ≡ r = cc in inl (a ∙ cc)
       go Open a (stepped.Field g q) b i = absurd (omega (arith, ap way i))
@@ -105,9 +107,9 @@ module _ {s : List ℕ} {a e p last n : ℕ} (c : Counting s a e p last n) where
       let x = end-of s p e last h in
       sym (through-open _ _ (sym (c .gate) ∙ x .0) ∙ ap counted (walk-steps-end (c .walk) (x .1)) ∙ ap countedAs.Fields (sym (c .count)))
 
-  pub refuses : (r : Refusal) (at t : ℕ) → stepEntry s p e last ≡ step.Refused r at t → countedAs.Refused r ≡ countEntry s a e
+  pub refuses : (r : Refusal) (at t : ℕ) (f : Fault) → stepEntry s p e last ≡ step.Refused r at t f → countedAs.Refused r ≡ countEntry s a e
   unfolding countEntry
-  refuses r at t h = go (refusal-of s p e last r at t h)
+  refuses r at t f h = go (refusal-of s p e last r at t f h)
     where
       go : (gated (length s) p e ≡ Shut r) ⊎ ((gated (length s) p e ≡ Open) × (stepAt s e p last ≡ stepped.Refused r)) → countedAs.Refused r ≡ countEntry s a e
       go (inl x) = sym (through-shut _ _ (sym (c .gate) ∙ x))

@@ -6,6 +6,7 @@ use native.Mathlib.Omega.{arith}
 use lib.ListN.{length}
 use Rattle.wire.specs.Reading.{Message, Fields, readMessage}
 use Rattle.wire.specs.Reading as reading
+use Rattle.wire.specs.Faults.{nowhere}
 use Rattle.wire.specs.Table.{room}
 use Rattle.wire.specs.declared.Refusal.the-variants.{NoRoom}
 use Rattle.wire.specs.declared.Field.{Field}
@@ -54,9 +55,10 @@ module _ (s : List ℕ) (start e n : ℕ) (h : countEntry s start e ≡ countedA
       let l = m .1 .2 in
       ap (λ (o : Outcome). o .answer) (through-open _ _ (m .0) ∙ into-fits s start e t (m .1 .0) (m .1 .1) (omega (arith, l))) ∙ ap (Accepted e) l
 
-  pub count-short : (t : List ℕ) → room t < n → readEntry s start e t .answer ≡ Refused NoRoom 0 n
+  pub count-short : (t : List ℕ) → room t < n → readEntry s start e t .answer ≡ Refused NoRoom 0 n nowhere
   unfolding readEntry
   count-short t f =
       let m = message-of in
       let l = m .1 .2 in
-      ap (λ (o : Outcome). o .answer) (through-open _ _ (m .0) ∙ into-no-room s start e t (m .1 .0) (m .1 .1) (omega (arith, l))) ∙ ap (Refused NoRoom 0) l
+      ap (λ (o : Outcome). o .answer) (through-open _ _ (m .0) ∙ into-no-room s start e t (m .1 .0) (m .1 .1) (omega (arith, l)))
+      ∙ ap (λ (k : ℕ). Refused NoRoom 0 k nowhere) l

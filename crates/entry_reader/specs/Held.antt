@@ -5,7 +5,7 @@ use mathlib.Core.List.{List}
 use denote.Ref.{RefT, now}
 use Rattle.wire.specs.declared.Refusal.{Refusal}
 use Rattle.entry_field.specs.Fields.{stepEntry}
-use Rattle.entry_field.specs.Test.{moreEntry, no-more-end, end-no-more, refused-step}
+use Rattle.entry_field.specs.Test.{moreEntry, testFault, no-more-end, end-no-more, refused-step}
 use Rattle.entry_answer.specs.declared.More.{More}
 use Rattle.entry_answer.specs.declared.More.the-variants as more
 use Rattle.entry_answer.specs.declared.Step.{Step}
@@ -38,5 +38,5 @@ module _ (r : Reader) {t : More} {s : Step} (a : Tested r t) (b : Stepped r s) w
   ends-no-more h = a ∙ end-no-more (now (r .message)) (r .place) (r .end) (r .last) (sym b ∙ h)
 
   -- a refused test is a refused step, with the reader's place and last tag
-  pub refused-refuses : (x : Refusal) → t ≡ more.Refused x → s ≡ step.Refused x (r .place) (r .last)
+  pub refused-refuses : (x : Refusal) → t ≡ more.Refused x → s ≡ step.Refused x (r .place) (r .last) (testFault (r .place) x)
   refused-refuses x h = b ∙ refused-step (now (r .message)) (r .place) (r .end) (r .last) x (sym a ∙ h)

@@ -71,7 +71,7 @@ pub fn count_fields(message: &[u8], start: usize, end: usize) -> Counted
             Step::End => {
                 return Counted::Fields(count);
             }
-            Step::Refused(r, _, _) => {
+            Step::Refused(r, _, _, _) => {
                 return Counted::Refused(r);
             }
         }

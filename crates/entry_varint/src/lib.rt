@@ -37,11 +37,11 @@ pub fn decode_varint(s: &[u8], at: usize) -> VarintRead
     ensures { λ r. ⌜ r ≡ decodeVarint (now (s .entry)) at ⌝ }
 {
     if let Gated::Shut(r) = entry_answer::gate(s.len(), at, s.len()) {
-        return VarintRead::Refused(r, at);
+        return VarintRead::Refused(r, at, 0);
     }
     match varint_read::decode_varint(s, at) {
         VarintFound::Got(v, next) => VarintRead::Got(v, next),
-        VarintFound::Refused(r) => VarintRead::Refused(r, at),
+        VarintFound::Refused(r) => VarintRead::Refused(r, at, fault::looked(s.len(), at)),
     }
 }
 
@@ -50,10 +50,10 @@ pub fn decode_varint_capped(s: &[u8], at: usize, end: usize) -> VarintRead
     ensures { λ r. ⌜ r ≡ decodeVarintCapped (now (s .entry)) at end ⌝ }
 {
     if let Gated::Shut(r) = entry_answer::gate(s.len(), at, end) {
-        return VarintRead::Refused(r, at);
+        return VarintRead::Refused(r, at, 0);
     }
     match varint_read::decode_varint_capped(s, at, end) {
         VarintFound::Got(v, next) => VarintRead::Got(v, next),
-        VarintFound::Refused(r) => VarintRead::Refused(r, at),
+        VarintFound::Refused(r) => VarintRead::Refused(r, at, fault::looked(s.len(), at)),
     }
 }

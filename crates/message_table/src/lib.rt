@@ -11,6 +11,7 @@ ghost use Rattle.wire.specs.declared.VarintFound.the-variants.{Got};
 ghost use Rattle.message_table.specs.Into.{readInto, intoTable};
 ghost use Rattle.message_table.specs.Second.{Fits, Varinted, Valued, Worded};
 use message::Decided;
+use wire::Fault;
 use wire::Read;
 use wire::Record;
 use wire::Refusal;
@@ -168,10 +169,11 @@ pub fn read_into(s: &[u8], start: usize, end: usize, table: &mut [u64]) -> Read
     ensures { λ r. ⌜ record { answer = r; table = now (table .exit) } ≡ readInto (now (s .entry)) start end (now (table .entry)) ⌝ }
 {
     match message::decide(s, start, end) {
-        Decided::Refused(r, p) => Read::Refused(r, p, 0),
+        Decided::Refused(r, p) => Read::Refused(r, p, 0, fault::fault_at(s, p, end, r)),
         Decided::Fields(n) => {
             if table.len() / wire::RECORD_WORDS < n {
-                return Read::Refused(Refusal::NoRoom, 0, n);
+                let nowhere = Fault { place: 0, bytes: 0 };
+                return Read::Refused(Refusal::NoRoom, 0, n, nowhere);
             }
             if start == 0 {
                 fill(s, 0, end, table);

@@ -43,7 +43,7 @@ returns-3 c =
     let room = read .before .before in
     let lent = room .before .before .before .before .before in
     copy-refused _ _ _ _ (λ i. omega (arith, lent .shared-slice-known .given i)) (omega (arith, room .before .if1 .left)) (omega (arith, room .if2 .left)) _ _
-    (read .read-message .ensures) _ _ _ (c .before .r .given .1)
+    (read .read-message .ensures) _ _ _ _ (c .before .r .given .1)
 
 same-length-2 : tie.Need-same-length-2
 same-length-2 c = search needs

@@ -52,7 +52,7 @@ enum-known-r : tie.Need-enum-known-r Inv-loop μ-loop
 enum-known-r c = search needs
 
 returns-2 : tie.Need-returns-2 Inv-loop μ-loop
-returns-2 c = refuses (c .before .before .before .before .loop .inv) _ _ _ (sym (c .before .before .before .step-through .ensures) ∙ c .before .r .given .1)
+returns-2 c = refuses (c .before .before .before .before .loop .inv) _ _ _ _ (sym (c .before .before .before .step-through .ensures) ∙ c .before .r .given .1)
 
 pub count-fields-spec : {M : Type 1} → statement M
 count-fields-spec =

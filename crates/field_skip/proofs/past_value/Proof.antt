@@ -24,6 +24,9 @@ decode-varint-capped-requires c κs = search needs
 enum-known-r : tie.Need-enum-known-r
 enum-known-r c = search needs
 
+looked-requires : tie.Need-looked-requires
+looked-requires c κs = search needs
+
 enum-known-n : tie.Need-enum-known-n
 enum-known-n c = search needs
 
@@ -36,9 +39,10 @@ past-bytes-requires-3 c κs = search needs
 
 returns-4 : tie.Need-returns-4
 returns-4 c =
-    sym
-    (past-none _ _ _ (c .before .before .before .before .before .before .before .args .kind) (omega arith)
-    (sym (c .before .before .before .decode-varint-capped .ensures) ∙ c .before .r .given .1))
+    let d = c .before .before .before .before in
+    let l = d .before .before .before in
+    past-none _ _ _ (l .before .args .kind) (λ i. omega (arith, l .shared-slice-known .given i)) (c .looked .ensures) (omega arith)
+    (sym (d .decode-varint-capped .ensures) ∙ c .before .before .r .given .1)
 
 returns-5 : tie.Need-returns-5
 returns-5 c =
@@ -58,6 +62,7 @@ past-value-spec =
     returns-2
     decode-varint-capped-requires
     enum-known-r
+    looked-requires
     enum-known-n
     returns-3
     past-bytes-requires-3

@@ -4,13 +4,14 @@ use native.Mathlib.Omega.{arith}
 use Prim.Native.Nat.{ℕ}
 use mathlib.Core.List.{List}
 use lib.ListN.{length}
+use Rattle.wire.specs.Faults.{nowhere}
 use Rattle.wire.specs.Reading.{Fields, readMessage}
 use Rattle.wire.specs.Table.{filled}
 use Rattle.wire.specs.declared.Field.{Field}
 use Rattle.wire.specs.declared.Read.the-variants.{Accepted, Refused}
 use Rattle.wire.specs.declared.Refusal.the-variants.{NoRoom}
 use Rattle.message.specs.Deciding.{decided-fields, decided-refused}
-use Rattle.message_table.specs.Into.{outcome, intoTable, readInto, into-refused, into-no-room, into-fits}
+use Rattle.message_table.specs.Into.{outcome, intoTable, readInto, into-fault, into-no-room, into-fits}
 use Rattle.message_table.specs.Second.{Fits}
 use borrow.Author.Needs.{needs}
 use Rattle.message_table.proofs.read_into.Statement.{statement}
@@ -21,6 +22,9 @@ decide-requires c κs = search needs
 
 enum-known-r : tie.Need-enum-known-r
 enum-known-r c = search needs
+
+fault-at-requires : tie.Need-fault-at-requires
+fault-at-requires c κs = search needs
 
 enum-known-n : tie.Need-enum-known-n
 enum-known-n c = search needs
@@ -35,7 +39,7 @@ returns c =
     let t = c .before .before .before .before .before .before .before .args .table .now in
     let x = counted (c .before) in
     let e = x .2 in
-    ap (λ (n : ℕ). outcome (Refused NoRoom 0 n) t) (sym e) ∙ sym (into-no-room _ _ _ t (x .0) (x .1) (omega arith))
+    ap (λ (n : ℕ). outcome (Refused NoRoom 0 n nowhere) t) (sym e) ∙ sym (into-no-room _ _ _ t (x .0) (x .1) (omega arith))
 
 -- there is room for them
 ready : (c : tie.Else1) → let a = c .before .before .before .before .before .before .before .args in Fits (a .s .now) (a .start) (a .end) (a .table .now)
@@ -73,7 +77,11 @@ fill-requires-2 : tie.Need-fill-requires-2
 fill-requires-2 c κs = ready (c .before .before)
 
 returns-3 : tie.Need-returns-3
-returns-3 c = sym (into-refused _ _ _ _ _ _ (decided-refused _ _ _ (sym (c .before .before .before .decide .ensures) ∙ c .before .r .given .1)))
+returns-3 c =
+    let d = c .before .before .before .before in
+    let l = d .before .before in
+    into-fault _ _ _ _ (λ i. omega (arith, l .shared-slice-known .given i)) (c .fault-at .ensures)
+    (decided-refused _ _ _ (sym (d .decide .ensures) ∙ c .before .before .r .given .1))
 
 same-length-2 : tie.Need-same-length-2
 same-length-2 c = search needs
@@ -87,6 +95,7 @@ read-into-spec =
     (tie.spec
     decide-requires
     enum-known-r
+    fault-at-requires
     enum-known-n
     returns
     fill-requires
