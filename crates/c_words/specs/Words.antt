@@ -40,10 +40,10 @@ abbrev pub asNumber : Number → told.Number
 asNumber r = record { number = r .number; value = r .value }
 
 abbrev pub asVarint : Varint → told.Varint
-asVarint r = record { number = r .number; value = r .value; place = r .place }
+asVarint r = record { number = r .number; value = r .value; place = r .place; bytes = r .bytes }
 
 abbrev pub asRead : ReadWords → told.Message
-asRead r = record { number = r .number; place = r .place; count = r .count }
+asRead r = record { number = r .number; place = r .place; count = r .count; failing = r .failing; bytes = r .bytes }
 
 abbrev pub asPicked : PickWords → told.Pick
 asPicked r = record { number = r .number; found = r .found; kind = r .kind; value = r .value; length = r .length }
@@ -65,17 +65,27 @@ abbrev pub uncountedOf : LookupWords → PickWords
 uncountedOf w = record { number = w .number; found = w .found; kind = w .kind; value = w .value; length = w .length }
 
 abbrev pub asKey : KeyWords → told.Key
-asKey r = record { number = r .number; tag = r .tag; kind = r .kind; place = r .place }
+asKey r = record { number = r .number; tag = r .tag; kind = r .kind; place = r .place; failing = r .failing; bytes = r .bytes }
 
 abbrev pub asValue : ValueWords → told.Value
-asValue r = record { number = r .number; value = r .value; length = r .length; place = r .place }
+asValue r = record { number = r .number; value = r .value; length = r .length; place = r .place; failing = r .failing; bytes = r .bytes }
 
 abbrev pub asPlace : PlaceWords → told.Place
-asPlace r = record { number = r .number; place = r .place }
+asPlace r = record { number = r .number; place = r .place; failing = r .failing; bytes = r .bytes }
 
 abbrev pub asStep : StepWords → told.Field
 asStep r =
-    record { number = r .number; found = r .found; tag = r .tag; kind = r .kind; value = r .value; length = r .length; place = r .place }
+    record {
+      number = r .number;
+      found = r .found;
+      tag = r .tag;
+      kind = r .kind;
+      value = r .value;
+      length = r .length;
+      place = r .place;
+      failing = r .failing;
+      bytes = r .bytes;
+    }
 
 abbrev pub asWritten : WrittenWords → told.Wrote
 asWritten r = record { number = r .number; start = r .start; length = r .length }
@@ -119,7 +129,7 @@ pub handed : {A : Type 0} {t u : A} {l : List ℕ} {o : Lent A} → t ≡ u → 
     → _≡_ {A = Lent A} (record { told = t; lent = l }) o
 handed e f = rw e f
 
--- ---- a wire type passed as a number (rule R10): one above 3 is BadRecord, before all else, with what the entry's other refusals carry
+-- ---- a wire type passed as a number (rule R10): one above 3 is BadRecord, before all else, with the place given; no read failed (rule F6)
 
 unfoldable pub typedOf : ℕ → Typed
 typedOf zero = Is wireType.Varint
@@ -134,11 +144,11 @@ keyStored b Unknown f = record { told = record { number = numberOf BadRecord; va
 
 unfoldable pub valueTyped : ℕ → Typed → (WireType → told.Value) → told.Value
 valueTyped at (Is w) f = f w
-valueTyped at Unknown f = record { number = numberOf BadRecord; value = 0; length = 0; place = at }
+valueTyped at Unknown f = record { number = numberOf BadRecord; value = 0; length = 0; place = at; failing = 0; bytes = 0 }
 
 unfoldable pub placeTyped : ℕ → Typed → (WireType → told.Place) → told.Place
 placeTyped at (Is w) f = f w
-placeTyped at Unknown f = record { number = numberOf BadRecord; place = at }
+placeTyped at Unknown f = record { number = numberOf BadRecord; place = at; failing = 0; bytes = 0 }
 
 -- their cases
 pub typed-above : (n : ℕ) → 4 ≤ n → typedOf n ≡ Unknown
@@ -159,7 +169,7 @@ unfolding keyStored
 key-known b t f w e = rw e
 
 pub value-unknown : (at : ℕ) (t : Typed) (f : WireType → told.Value) → t ≡ Unknown
-    → valueTyped at t f ≡ record { number = numberOf BadRecord; value = 0; length = 0; place = at }
+    → valueTyped at t f ≡ record { number = numberOf BadRecord; value = 0; length = 0; place = at; failing = 0; bytes = 0 }
 unfolding valueTyped
 value-unknown at t f e = rw e
 
@@ -167,7 +177,8 @@ pub value-known : (at : ℕ) (t : Typed) (f : WireType → told.Value) (w : Wire
 unfolding valueTyped
 value-known at t f w e = rw e
 
-pub place-unknown : (at : ℕ) (t : Typed) (f : WireType → told.Place) → t ≡ Unknown → placeTyped at t f ≡ record { number = numberOf BadRecord; place = at }
+pub place-unknown : (at : ℕ) (t : Typed) (f : WireType → told.Place) → t ≡ Unknown
+    → placeTyped at t f ≡ record { number = numberOf BadRecord; place = at; failing = 0; bytes = 0 }
 unfolding placeTyped
 place-unknown at t f e = rw e
 

@@ -37,6 +37,7 @@ pub struct Varint {
     pub number: u64,
     pub value: u64,
     pub place: u64,
+    pub bytes: u64,
 }
 
 #[repr(C)]
@@ -44,6 +45,8 @@ pub struct ReadWords {
     pub number: u64,
     pub place: u64,
     pub count: u64,
+    pub failing: u64,
+    pub bytes: u64,
 }
 
 #[repr(C)]
@@ -78,6 +81,8 @@ pub struct KeyWords {
     pub tag: u64,
     pub kind: u64,
     pub place: u64,
+    pub failing: u64,
+    pub bytes: u64,
 }
 
 #[repr(C)]
@@ -86,12 +91,16 @@ pub struct ValueWords {
     pub value: u64,
     pub length: u64,
     pub place: u64,
+    pub failing: u64,
+    pub bytes: u64,
 }
 
 #[repr(C)]
 pub struct PlaceWords {
     pub number: u64,
     pub place: u64,
+    pub failing: u64,
+    pub bytes: u64,
 }
 
 #[repr(C)]
@@ -103,6 +112,8 @@ pub struct StepWords {
     pub value: u64,
     pub length: u64,
     pub place: u64,
+    pub failing: u64,
+    pub bytes: u64,
 }
 
 #[repr(C)]
@@ -200,11 +211,13 @@ pub fn varint_words(v: VarintRead) -> Varint
             number: 0,
             value: n,
             place: next as u64,
+            bytes: 0,
         },
-        VarintRead::Refused(r, at) => Varint {
+        VarintRead::Refused(r, at, n) => Varint {
             number: wire::number_of(r),
             value: 0,
             place: at as u64,
+            bytes: n as u64,
         },
     }
 }
@@ -218,11 +231,15 @@ pub fn read_words(m: Read) -> ReadWords
             number: 0,
             place: p as u64,
             count: n as u64,
+            failing: 0,
+            bytes: 0,
         },
-        Read::Refused(r, p, n) => ReadWords {
+        Read::Refused(r, p, n, f) => ReadWords {
             number: wire::number_of(r),
             place: p as u64,
             count: n as u64,
+            failing: f.place as u64,
+            bytes: f.bytes as u64,
         },
     }
 }
@@ -239,13 +256,17 @@ pub fn key_words(k: KeyRead) -> KeyWords
                 tag: key.tag as u64,
                 kind: field_key::wire_number(wire),
                 place: next as u64,
+                failing: 0,
+                bytes: 0,
             }
         }
-        KeyRead::Refused(r, at, last) => KeyWords {
+        KeyRead::Refused(r, at, last, f) => KeyWords {
             number: wire::number_of(r),
             tag: last as u64,
             kind: 0,
             place: at as u64,
+            failing: f.place as u64,
+            bytes: f.bytes as u64,
         },
     }
 }
@@ -262,13 +283,17 @@ pub fn value_read_words(v: ValueRead) -> ValueWords
                 value: w.value,
                 length: w.length,
                 place: next as u64,
+                failing: 0,
+                bytes: 0,
             }
         }
-        ValueRead::Refused(r, at) => ValueWords {
+        ValueRead::Refused(r, at, f) => ValueWords {
             number: wire::number_of(r),
             value: 0,
             length: 0,
             place: at as u64,
+            failing: f.place as u64,
+            bytes: f.bytes as u64,
         },
     }
 }
@@ -281,10 +306,14 @@ pub fn skipped_words(k: Skipped) -> PlaceWords
         Skipped::To(q) => PlaceWords {
             number: 0,
             place: q as u64,
+            failing: 0,
+            bytes: 0,
         },
-        Skipped::Refused(r, at) => PlaceWords {
+        Skipped::Refused(r, at, f) => PlaceWords {
             number: wire::number_of(r),
             place: at as u64,
+            failing: f.place as u64,
+            bytes: f.bytes as u64,
         },
     }
 }
@@ -305,16 +334,21 @@ pub fn step_words(at: usize, last: u32, k: Step) -> StepWords
                 value: w.value,
                 length: w.length,
                 place: next as u64,
+                failing: 0,
+                bytes: 0,
             }
         }
-        Step::End => no_field(0, at, last),
-        Step::Refused(r, p, t) => no_field(wire::number_of(r), p, t),
+        Step::End => no_field(0, at, last, 0, 0),
+        Step::Refused(r, p, t, f) => no_field(wire::number_of(r), p, t, f.place, f.bytes),
     }
 }
 
-// The end, or a refusal: no field, a place and a last tag.
-fn no_field(number: u64, place: usize, tag: u32) -> StepWords
-    ensures { λ r. ⌜ asStep r ≡ record { number = number; found = 0; tag = tag; kind = 0; value = 0; length = 0; place = place } ⌝ }
+// The end, or a refusal: no field, a place and a last tag; and where the read failed.
+fn no_field(number: u64, place: usize, tag: u32, failing: usize, bytes: usize) -> StepWords
+    ensures { λ r. ⌜
+        asStep r
+        ≡ record { number = number; found = 0; tag = tag; kind = 0; value = 0; length = 0; place = place; failing = failing; bytes = bytes }
+        ⌝ }
 {
     StepWords {
         number: number,
@@ -324,6 +358,8 @@ fn no_field(number: u64, place: usize, tag: u32) -> StepWords
         value: 0,
         length: 0,
         place: place as u64,
+        failing: failing as u64,
+        bytes: bytes as u64,
     }
 }
 

@@ -18,6 +18,7 @@ pub use entry_reader::Reader;
 pub use sounding::Head;
 pub use sounding::Sounding;
 pub use wire::Early;
+pub use wire::Fault;
 pub use wire::Field;
 pub use wire::Inserted;
 pub use wire::Key;

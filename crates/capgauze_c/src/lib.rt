@@ -36,6 +36,7 @@ use c_words::Typed;
 use c_words::ValueWords;
 use c_words::Varint;
 use c_words::WrittenWords;
+use capgauze::Fault;
 use capgauze::Put;
 use capgauze::Record;
 use capgauze::Refusal;
@@ -152,7 +153,8 @@ pub extern "C" fn capgauze_decode_value(s: &[u8], at: usize, end: usize, kind: u
     ensures { λ r. ⌜ asValue r ≡ valueTyped at (typedOf kind) (λ w. valueTold (decodeValue (now (s .entry)) at end w)) ⌝ }
 {
     let Typed::Is(wire) = c_words::typed_of(kind) else {
-        return c_words::value_read_words(ValueRead::Refused(Refusal::BadRecord, at));
+        let nowhere = Fault { place: 0, bytes: 0 };
+        return c_words::value_read_words(ValueRead::Refused(Refusal::BadRecord, at, nowhere));
     };
     c_words::value_read_words(capgauze::decode_value(s, at, end, wire))
 }
@@ -163,7 +165,8 @@ pub extern "C" fn capgauze_skip_field(s: &[u8], at: usize, end: usize, kind: u64
     ensures { λ r. ⌜ asPlace r ≡ placeTyped at (typedOf kind) (λ w. skippedTold (skipField (now (s .entry)) at end w)) ⌝ }
 {
     let Typed::Is(wire) = c_words::typed_of(kind) else {
-        return c_words::skipped_words(Skipped::Refused(Refusal::BadRecord, at));
+        let nowhere = Fault { place: 0, bytes: 0 };
+        return c_words::skipped_words(Skipped::Refused(Refusal::BadRecord, at, nowhere));
     };
     c_words::skipped_words(capgauze::skip_field(s, at, end, wire))
 }

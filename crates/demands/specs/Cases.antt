@@ -23,6 +23,7 @@ use Rattle.wire.specs.declared.Reached.{Reached}
 use Rattle.wire.specs.Table.{room, records}
 use Rattle.wire.specs.Cases.{Case, Encodes, Varint, Reads, Skips, Right, All, cases}
 use Rattle.wire.specs.Cases as format
+use Rattle.fault.specs.Fault.{messageFault}
 use Rattle.message_table.specs.Into.{Outcome, readInto, into-refused, into-fits}
 use Rattle.entry_answer.specs.Gate.{gated, through-open, gated-open}
 use Rattle.entry_varint.specs.Varints.{varintRead, decodeVarint}
@@ -44,10 +45,11 @@ use Rattle.entry_field.proofs.skip_field.Kinds as skip-field
 use Rattle.entry_field.proofs.skip_field.Reads as skip-field-reads
 use Rattle.demands.specs.Calls.{Every, Call, message, start, end, table, answer, left}
 
--- what is told of a message that is read up to e
-abbrev pub told : ℕ → Message → Answer
-told e (Fields fs) = record { number = 0; place = e; count = length fs }
-told e (reading.Refused r p) = record { number = numberOf r; place = p; count = 0 }
+-- what is told of a message of s that is read from a up to e
+abbrev pub told : List ℕ → ℕ → ℕ → Message → Answer
+told s a e (Fields fs) = record { number = 0; place = e; count = length fs; failing = 0; bytes = 0 }
+told s a e (reading.Refused r p) =
+    let f = messageFault s a e in record { number = numberOf r; place = p; count = 0; failing = f .place; bytes = f .bytes }
 
 -- and what a table t then holds: the records of the fields, in words, and every other word as it was
 abbrev pub holding : List ℕ → Message → List ℕ
@@ -71,7 +73,7 @@ pub record Encoded (v : ℕ) (bs : List ℕ) : Type 0 where
 -- bytes read as a varint from their first place
 abbrev pub ReadsVarint : List ℕ → VarintFound → Type 0
 ReadsVarint bs found = Every 1 decode-varint.ps decode-varint.r decode-varint-reads.Post
-    (λ κs a x s. now (a .0) ≡ bs → a .1 .0 ≡ 0 → varintTold x ≡ varintTold (varintRead 0 found))
+    (λ κs a x s. now (a .0) ≡ bs → a .1 .0 ≡ 0 → varintTold x ≡ varintTold (varintRead bs 0 found))
 
 -- bytes skipped from a place, up to an end
 abbrev pub Skipped : List ℕ → ℕ → ℕ → WireType → Reached → Type 0
@@ -84,13 +86,13 @@ abbrev pub Tells : Case → Type 0
 Tells (Encodes v bs) = Encoded v bs × ReadsVarint bs (varintFound.Got v (length bs))
 Tells (Varint bs found) = ReadsVarint bs found
 Tells (Reads bs a e m) = (c : Call) → message c ≡ bs → start c ≡ a → end c ≡ e → needed m ≤ room (table c)
-    → (readTold (answer c) ≡ told e m) × (left c ≡ holding (table c) m)
+    → (readTold (answer c) ≡ told bs a e m) × (left c ≡ holding (table c) m)
 Tells (Skips bs e at w to) = Skipped bs at e w to
 
 -- ---- the proof
 
 told-into : (s : List ℕ) (a e : ℕ) (t : List ℕ) (m : Message) → readMessage s a e ≡ m → needed m ≤ room t
-    → (readTold (readInto s a e t .answer) ≡ told e m) × (readInto s a e t .table ≡ holding t m)
+    → (readTold (readInto s a e t .answer) ≡ told s a e m) × (readInto s a e t .table ≡ holding t m)
 told-into s a e t (Fields fs) h g = rw (into-fits s a e t fs h g) (refl, refl)
 told-into s a e t (reading.Refused r p) h g = rw (into-refused s a e t r p h) (refl, refl)
 
@@ -148,7 +150,7 @@ reads-varint : (bs : List ℕ) (found : VarintFound) → varintAt bs 0 ≡ found
 unfolding decodeVarint
 reads-varint bs found w i κs a x s p q r =
     ap varintTold
-    (p ∙ ap (λ (m : List ℕ). decodeVarint m (a .1 .0)) q ∙ ap (decodeVarint bs) r ∙ through-open _ _ (open-gate bs 0 (length bs) i) ∙ ap (varintRead 0) w)
+    (p ∙ ap (λ (m : List ℕ). decodeVarint m (a .1 .0)) q ∙ ap (decodeVarint bs) r ∙ through-open _ _ (open-gate bs 0 (length bs) i) ∙ ap (varintRead bs 0) w)
 
 skips : (bs : List ℕ) (at e : ℕ) (w : WireType) (to : Reached) → skipAt bs e at w ≡ to → within bs at e ≡ true → Skipped bs at e w to
 unfolding skipField

@@ -55,6 +55,8 @@ pub use Rattle.demands.specs.Early.{Promise, every-early}
 pub use Rattle.demands.specs.Indexing.{index-lookup, Means, index-meaning, fits-exactly, fits-made}
 -- a line of an index there and back; what was made of a message can always be written
 pub use Rattle.demands.specs.Lines.{line-again, line-read-back, old-line-comes-back-new, made-is-written}
+-- where a read failed: in the slice, no earlier than the place told, and its bytes are those of a refused varint; no other word moved for it
+pub use Rattle.demands.specs.Faults.{Located, Faulted, message-faulted, answers-else-same, StepFaulted, step-faulted}
 -- ---- THE THIRD DEMAND: a message is refused exactly if no list of fields is written as it
 
 -- A message read whole, with a table of at least half as many records as it has bytes, is refused exactly if no list of fields in non-falling tag order is

@@ -34,6 +34,11 @@ pub use Rattle.field.proofs.Only.{decode-field-one as field-decode-field-one}
 pub use Rattle.field.proofs.Only.{step-from-one as field-step-from-one}
 pub use Rattle.field.proofs.Only.{next-field-one as field-next-field-one}
 pub use Rattle.field_skip.proofs.Only.{skip-field-one as skip-skip-field-one}
+-- where a failing read began
+pub use Rattle.fault.proofs.Only.{looked-one as fault-looked-one}
+pub use Rattle.fault.proofs.Only.{key-fault-one as fault-key-fault-one}
+pub use Rattle.fault.proofs.Only.{value-fault-one as fault-value-fault-one}
+pub use Rattle.fault.proofs.Only.{fault-at-one as fault-fault-at-one}
 -- whole messages
 pub use Rattle.message.proofs.Only.{decide-one as message-decide-one}
 pub use Rattle.message.proofs.Only.{walk-one as message-walk-one}

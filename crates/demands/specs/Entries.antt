@@ -8,6 +8,7 @@ use native.Mathlib.Omega.{arith}
 use borrow.Author.Tests.{lt-ltb, le-ltb, ltb-true, ltb-false, eqb-true, eqb-false}
 use lib.Dec.{ltb, leb, eqb}
 use lib.ListN.{length, drop}
+use Rattle.wire.specs.Faults.{nowhere}
 use Rattle.wire.specs.Choose.{choose}
 use Rattle.wire.specs.Limits.{messageLimit}
 use Rattle.wire.specs.Numbers.{numberOf}
@@ -38,6 +39,7 @@ use Rattle.wire.specs.declared.Stepped.{Stepped}
 use Rattle.wire.specs.declared.Stepped.the-variants as stepped
 use Rattle.wire.specs.declared.Reached.{Reached}
 use Rattle.wire.specs.declared.Reached.the-variants as reached
+use Rattle.fault.specs.Fault.{messageFault}
 use Rattle.message_table.specs.Into.{Outcome, outcome, landed, readInto}
 use Rattle.message_payload.specs.Payload.{payload}
 use Rattle.message.specs.Tags.{ofTag, atNumber, sought}
@@ -94,63 +96,63 @@ module _ {A : Type 0} (number : A → ℕ) (refused : Refusal → A) (told : (r 
 
 -- ---- the readers
 
-varint-number : (at : ℕ) (x : VarintFound) → varintTold (varintRead at x) .number ≡ varintNumber x
-varint-number at (varintFound.Got v q) = refl
-varint-number at (varintFound.Refused r) = refl
+varint-number : (s : List ℕ) (at : ℕ) (x : VarintFound) → varintTold (varintRead s at x) .number ≡ varintNumber x
+varint-number s at (varintFound.Got v q) = refl
+varint-number s at (varintFound.Refused r) = refl
 
 pub decode-varint-order : (s : List ℕ) (at : ℕ) → varintTold (decodeVarint s at) .number ≡ firstOf (decodeVarintOrder s at)
 unfolding decodeVarint
 decode-varint-order s at =
-    order-r (λ y. varintTold y .number) (λ r. varintAnswer.Refused r at) (λ r. refl) s at (length s) _ (varintRules s at)
-    (varint-number at (varintAt s at) ∙ varint-told s at)
+    order-r (λ y. varintTold y .number) (λ r. varintAnswer.Refused r at 0) (λ r. refl) s at (length s) _ (varintRules s at)
+    (varint-number s at (varintAt s at) ∙ varint-told s at)
 
 pub decode-varint-capped-order : (s : List ℕ) (at e : ℕ) → varintTold (decodeVarintCapped s at e) .number ≡ firstOf (decodeVarintCappedOrder s at e)
 unfolding decodeVarintCapped
 decode-varint-capped-order s at e =
-    order-r (λ y. varintTold y .number) (λ r. varintAnswer.Refused r at) (λ r. refl) s at e _ (cappedRules s e at)
-    (varint-number at (cappedAt s e at) ∙ capped-told s e at)
+    order-r (λ y. varintTold y .number) (λ r. varintAnswer.Refused r at 0) (λ r. refl) s at e _ (cappedRules s e at)
+    (varint-number s at (cappedAt s e at) ∙ capped-told s e at)
 
-key-number : (at last : ℕ) (x : KeyFound) → keyTold (keyAnswer at last x) .number ≡ keyNumber x
-key-number at last (keyFound.Got k q) = refl
-key-number at last (keyFound.Refused r) = refl
+key-number : (s : List ℕ) (at last : ℕ) (x : KeyFound) → keyTold (keyAnswer s at last x) .number ≡ keyNumber x
+key-number s at last (keyFound.Got k q) = refl
+key-number s at last (keyFound.Refused r) = refl
 
 pub decode-key-order : (s : List ℕ) (at e last : ℕ) → keyTold (decodeKey s at e last) .number ≡ firstOf (decodeKeyOrder s at e last)
 unfolding decodeKey
 decode-key-order s at e last =
-    order-r (λ y. keyTold y .number) (λ r. keyRead.Refused r at last) (λ r. refl) s at e _ (keyRules s e at last)
-    (key-number at last (keyAt s e at last) ∙ key-told s e at last)
+    order-r (λ y. keyTold y .number) (λ r. keyRead.Refused r at last nowhere) (λ r. refl) s at e _ (keyRules s e at last)
+    (key-number s at last (keyAt s e at last) ∙ key-told s e at last)
 
-value-number : (at : ℕ) (x : ValueFound) → valueTold (valueAnswer at x) .number ≡ valueNumber x
-value-number at (valueFound.Got v q) = refl
-value-number at (valueFound.Refused r) = refl
+value-number : (s : List ℕ) (at : ℕ) (w : WireType) (x : ValueFound) → valueTold (valueAnswer s at w x) .number ≡ valueNumber x
+value-number s at w (valueFound.Got v q) = refl
+value-number s at w (valueFound.Refused r) = refl
 
 pub decode-value-order : (s : List ℕ) (at e : ℕ) (w : WireType) → valueTold (decodeValue s at e w) .number ≡ firstOf (decodeValueOrder s at e w)
 unfolding decodeValue
 decode-value-order s at e w =
-    order-r (λ y. valueTold y .number) (λ r. valueRead.Refused r at) (λ r. refl) s at e _ (valueRules s e at w)
-    (value-number at (valueAt s e at w) ∙ value-told s e at w)
+    order-r (λ y. valueTold y .number) (λ r. valueRead.Refused r at nowhere) (λ r. refl) s at e _ (valueRules s e at w)
+    (value-number s at w (valueAt s e at w) ∙ value-told s e at w)
 
 skip-number : (at : ℕ) (x : Reached) → skippedTold (skipAnswer at x) .number ≡ reachedNumber x
 skip-number at (reached.To q) = refl
-skip-number at (reached.Refused r) = refl
+skip-number at (reached.Refused r f) = refl
 
 pub skip-field-order : (s : List ℕ) (at e : ℕ) (w : WireType) → skippedTold (skipField s at e w) .number ≡ firstOf (skipFieldOrder s at e w)
 unfolding skipField skipAt
 skip-field-order s at e w =
-    order-r (λ y. skippedTold y .number) (λ r. skipped.Refused r at) (λ r. refl) s at e _ (skipRules (length s - at) s e at w)
+    order-r (λ y. skippedTold y .number) (λ r. skipped.Refused r at nowhere) (λ r. refl) s at e _ (skipRules (length s - at) s e at w)
     (skip-number at (skipAt s e at w) ∙ skip-told (length s - at) s e at w)
 
 -- whatever place and tag an end is told with
-step-number : (p l at last : ℕ) (x : Stepped) → stepTold p l (stepAnswer at last x) .number ≡ stepNumber x
-step-number p l at last (stepped.Field f q) = refl
-step-number p l at last stepped.End = refl
-step-number p l at last (stepped.Refused r) = refl
+step-number : (p l : ℕ) (s : List ℕ) (at e last : ℕ) (x : Stepped) → stepTold p l (stepAnswer s at e last x) .number ≡ stepNumber x
+step-number p l s at e last (stepped.Field f q) = refl
+step-number p l s at e last stepped.End = refl
+step-number p l s at e last (stepped.Refused r) = refl
 
 pub step-at-order : (p l : ℕ) (s : List ℕ) (at e last : ℕ) → stepTold p l (stepEntry s at e last) .number ≡ firstOf (stepAtOrder s at e last)
 unfolding stepEntry
 step-at-order p l s at e last =
-    order-r (λ y. stepTold p l y .number) (λ r. step.Refused r at last) (λ r. refl) s at e _ (stepRules s e at last)
-    (step-number p l at last (stepAt s e at last) ∙ step-told s e at last)
+    order-r (λ y. stepTold p l y .number) (λ r. step.Refused r at last nowhere) (λ r. refl) s at e _ (stepRules s e at last)
+    (step-number p l s at e last (stepAt s e at last) ∙ step-told s e at last)
 
 more-told : (at e : ℕ) → moreTold (moreOf at e) .number ≡ firstOf (when (ltb e at) Truncated ∷ [])
 unfolding moreOf
@@ -175,11 +177,12 @@ into-told : (s : List ℕ) (a e : ℕ) (t : List ℕ) → readTold (readInto s a
 unfolding readInto readMessage
 into-told s a e t = go (readMessage s a e) refl ∙ behind (messageRules s a e) (tableRules s a e t) (message-told s a e) refl
   where
-    go : (m : Message) → readMessage s a e ≡ m → readTold (landed e t m .answer) .number ≡ orElse (messageNumber m) (firstOf (tableRules s a e t))
+    go : (m : Message) → readMessage s a e ≡ m
+        → readTold (landed e (messageFault s a e) t m .answer) .number ≡ orElse (messageNumber m) (firstOf (tableRules s a e t))
     go (reading.Refused r p) h = sym (refused-first r _)
     go (Fields fs) h = rw (fields-read (e - a) s e a a 0 fs h) (fits (leb (length fs) (room t)) refl)
       where
-        fits : (b : Bool) → leb (length fs) (room t) ≡ b → readTold (landed e t (Fields fs) .answer) .number
+        fits : (b : Bool) → leb (length fs) (room t) ≡ b → readTold (landed e (messageFault s a e) t (Fields fs) .answer) .number
             ≡ firstOf (when (ltb (room t) (length fs)) NoRoom ∷ [])
         fits true b = rw (above (length fs) (room t), b)
         fits false b = rw (above (length fs) (room t), b)
@@ -187,7 +190,7 @@ into-told s a e t = go (readMessage s a e) refl ∙ behind (messageRules s a e) 
 pub read-message-order : (s : List ℕ) (a e : ℕ) (t : List ℕ) → readTold (readEntry s a e t .answer) .number ≡ firstOf (readMessageOrder s a e t)
 unfolding readEntry
 read-message-order s a e t =
-    order-r (λ (o : Outcome). readTold (o .answer) .number) (λ r. outcome (read.Refused r 0 0) t) (λ r. refl) s a e (readInto s a e t)
+    order-r (λ (o : Outcome). readTold (o .answer) .number) (λ r. outcome (read.Refused r 0 0 nowhere) t) (λ r. refl) s a e (readInto s a e t)
     (messageRules s a e ++ tableRules s a e t) (into-told s a e t)
 
 pub read-payload-order : (m : List ℕ) (r : Record) (t : List ℕ) → readTold (readPayload m r t .answer) .number ≡ firstOf (readPayloadOrder m r t)
@@ -315,7 +318,7 @@ copy-message-order s t f b =
     go : (x : Read) → readEntry s 0 (length s) t .answer ≡ x
         → copiedTold (copiedBy s t f b x (readEntry s 0 (length s) t .table) .answer) .number
         ≡ orElse (readTold x .number) (firstOf (roomRules f s ++ roomRules b s))
-    go (read.Refused r p n) e = sym (refused-first r _)
+    go (read.Refused r p n x) e = sym (refused-first r _)
     go (read.Accepted i n) e = fits (leb (length s) (length f)) refl (leb (length s) (length b)) refl
       where
         fits : (x : Bool) → leb (length s) (length f) ≡ x → (y : Bool) → leb (length s) (length b) ≡ y

@@ -112,7 +112,7 @@ field-of-ok : (s : List ℕ) (e : ℕ) (k : KeyFound) → KeyOk k → FieldOk (f
 field-of-ok s e (keyFound.Got k q) h = tagged-ok (k .tag) (valueAt s e q (k .wire)) (value-ok s e q (k .wire))
 field-of-ok s e (keyFound.Refused r) h = h
 
-field-ok : (s : List ℕ) (e p last : ℕ) → FieldOk (fieldAt s e p last)
+pub field-ok : (s : List ℕ) (e p last : ℕ) → FieldOk (fieldAt s e p last)
 unfolding fieldAt
 field-ok s e p last = field-of-ok s e (keyAt s e p last) (key-ok last (cappedAt s e p) (renamed-ok e p (varintAt s p) (varint-ok s p)))
 

@@ -25,3 +25,4 @@ pub mod IndexRules
 pub mod IndexVerdict
 pub mod Lines
 pub mod Formats
+pub mod Faults

@@ -15,10 +15,12 @@ use Rattle.wire.specs.Reading as reading
 use Rattle.wire.specs.Theorem.{Written, accepted, unique, refused}
 use Rattle.demands.specs.Formats.{refused-format}
 use Rattle.wire.specs.Table.{room, filled, fieldsFrom, fields-records}
+use Rattle.wire.specs.declared.Fault.{Fault}
 use Rattle.wire.specs.declared.Refusal.{Refusal}
 use Rattle.wire.specs.declared.Field.{Field}
 use Rattle.wire.specs.declared.Read.{Read}
 use Rattle.wire.specs.declared.Read.the-variants.{Accepted, Refused}
+use Rattle.fault.specs.Fault.{messageFault}
 use Rattle.message_table.specs.Into.{Outcome, outcome, readInto, into-refused, into-fits}
 use Rattle.entry_answer.specs.Told.{readTold}
 use Rattle.entry_message.specs.Messages.{entry-open}
@@ -86,8 +88,8 @@ module _ (m t : List ℕ) (b : Bytes m) where
         only = λ z is v. rw back (unique m 0 (length m) (omega arith) (omega arith) is (items m fs) (to-written m is v) w);
       }
 
-  third-refused : (q : Refusal) (p : ℕ) → readMessage m 0 (length m) ≡ reading.Refused q p → Third m t t (Refused q p 0)
-  third-refused q p h =
+  third-refused : (q : Refusal) (p : ℕ) (x : Fault) → readMessage m 0 (length m) ≡ reading.Refused q p → Third m t t (Refused q p 0 x)
+  third-refused q p x h =
       let f = refused-format m 0 (length m) q p h in
       record {
         refused-none = λ n is v. refused m 0 (length m) (omega arith) (omega arith) q p is h (to-written m is v);
@@ -104,7 +106,7 @@ module _ (m t : List ℕ) (b : Bytes m) where
   third-into e (Fields fs) h =
       let k = accepted m 0 (length m) b fs h .1 in
       rw (into-fits m 0 (length m) t fs h (omega (arith, k))) (third-accepted fs h)
-  third-into e (reading.Refused q p) h = rw (into-refused m 0 (length m) t q p h) (third-refused q p h)
+  third-into e (reading.Refused q p) h = rw (into-refused m 0 (length m) t q p h) (third-refused q p (messageFault m 0 (length m)) h)
 
 -- ---- THE THIRD DEMAND
 

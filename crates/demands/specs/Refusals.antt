@@ -10,6 +10,7 @@ use denote.Ref.{now}
 use lib.Dec.{ltb, leb, eqb}
 use lib.ListN.{length, take, drop, length-append, length-take, length-drop}
 use lib.Seq.{take-at, drop-at, drop-length}
+use Rattle.wire.specs.Faults.{nowhere}
 use Rattle.wire.specs.Limits.{messageLimit, recordWords}
 use Rattle.wire.specs.Varint.{encode}
 use Rattle.wire.specs.Places.{part}
@@ -227,7 +228,7 @@ module _ (s : List ℕ) (a e : ℕ) (t : List ℕ) where
   unfolding readEntry
   entry-table = go (gated (length s) a e)
     where
-      go : (g : Gated) → InTable t (outcomeTold (through g (λ r. outcome (read.Refused r 0 0) t) (readInto s a e t)))
+      go : (g : Gated) → InTable t (outcomeTold (through g (λ r. outcome (read.Refused r 0 0 nowhere) t) (readInto s a e t)))
       go Open = into-table (readMessage s a e) refl
       go (Shut r) = kept _ _ _ t
 
@@ -297,7 +298,7 @@ copied-all s t f b = go (readEntry s 0 (length s) t .answer) refl
 
     go : (x : Read) → readEntry s 0 (length s) t .answer ≡ x
         → InAll s t f b (copiedBy s t f b (readEntry s 0 (length s) t .answer) (readEntry s 0 (length s) t .table))
-    go (read.Refused r p n) e = rw e same
+    go (read.Refused r p n x) e = rw e same
     go (read.Accepted i n) e = rw e (fits (leb (length s) (length f)) refl (leb (length s) (length b)) refl)
       where
         fits : (x : Bool) → leb (length s) (length f) ≡ x → (y : Bool) → leb (length s) (length b) ≡ y

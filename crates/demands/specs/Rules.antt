@@ -121,7 +121,7 @@ pastRules s e p SixtyFourBit = when (ltb (length s) (p + 8)) Truncated ∷ []
 
 abbrev pub beyondRules : List ℕ → ℕ → Reached → (ℕ → WireType → List Rule) → List Rule
 beyondRules s e (reached.To q) go = choose (repeats s e q) (go (suc q) (wireOf (getD s q 0))) []
-beyondRules s e (reached.Refused r) go = []
+beyondRules s e (reached.Refused r f) go = []
 
 abbrev pub skipRules : ℕ → List ℕ → ℕ → ℕ → WireType → List Rule
 skipRules zero s e p w = pastRules s e p w

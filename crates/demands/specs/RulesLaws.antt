@@ -85,7 +85,7 @@ messageNumber (reading.Refused r p) = numberOf r
 
 abbrev pub reachedNumber : Reached → ℕ
 reachedNumber (reached.To q) = 0
-reachedNumber (reached.Refused r) = numberOf r
+reachedNumber (reached.Refused r f) = numberOf r
 
 abbrev pub verdictNumber : Verdict → ℕ
 verdictNumber AllFine = 0
@@ -319,32 +319,33 @@ stop-seen (suc k) tag s p last = go (λ f q. stop-seen k tag s q (f .tag)) (ltb 
 
 -- ---- skipping
 
-in-slice : (s : List ℕ) (q : ℕ) → reachedNumber (inSlice s q) ≡ firstOf (when (ltb (length s) q) Truncated ∷ [])
-in-slice s q = go (leb q (length s)) refl
+in-slice : (s : List ℕ) (p q : ℕ) → reachedNumber (inSlice s p q) ≡ firstOf (when (ltb (length s) q) Truncated ∷ [])
+in-slice s p q = go (leb q (length s)) refl
   where
-    go : (a : Bool) → leb q (length s) ≡ a → reachedNumber (inSlice s q) ≡ firstOf (when (ltb (length s) q) Truncated ∷ [])
+    go : (a : Bool) → leb q (length s) ≡ a → reachedNumber (inSlice s p q) ≡ firstOf (when (ltb (length s) q) Truncated ∷ [])
     go true a = rw (above q (length s), a)
     go false a = rw (above q (length s), a)
 
-past-number : (v : VarintFound) → reachedNumber (pastNumber v) ≡ varintNumber v
-past-number (varintFound.Got v q) = refl
-past-number (varintFound.Refused r) = refl
+past-number : (s : List ℕ) (p : ℕ) (v : VarintFound) → reachedNumber (pastNumber s p v) ≡ varintNumber v
+past-number s p (varintFound.Got v q) = refl
+past-number s p (varintFound.Refused r) = refl
 
-past-payload : (s : List ℕ) (v : VarintFound) → reachedNumber (pastPayload s v) ≡ orElse (varintNumber v) (firstOf (skippedPayload s v))
-past-payload s (varintFound.Got n q) = in-slice s (q + n)
-past-payload s (varintFound.Refused r) = sym (refused-first r _)
+past-payload : (s : List ℕ) (p : ℕ) (v : VarintFound) → reachedNumber (pastPayload s p v) ≡ orElse (varintNumber v) (firstOf (skippedPayload s v))
+past-payload s p (varintFound.Got n q) = in-slice s p (q + n)
+past-payload s p (varintFound.Refused r) = sym (refused-first r _)
 
 past-told : (s : List ℕ) (e p : ℕ) (w : WireType) → reachedNumber (pastAt s e p w) ≡ firstOf (pastRules s e p w)
 unfolding pastAt
-past-told s e p Varint = past-number (cappedAt s e p) ∙ capped-told s e p
-past-told s e p LengthDelimited = past-payload s (cappedAt s e p) ∙ behind (cappedRules s e p) (skippedPayload s (cappedAt s e p)) (capped-told s e p) refl
-past-told s e p ThirtyTwoBit = in-slice s (p + 4)
-past-told s e p SixtyFourBit = in-slice s (p + 8)
+past-told s e p Varint = past-number s p (cappedAt s e p) ∙ capped-told s e p
+past-told s e p LengthDelimited =
+    past-payload s p (cappedAt s e p) ∙ behind (cappedRules s e p) (skippedPayload s (cappedAt s e p)) (capped-told s e p) refl
+past-told s e p ThirtyTwoBit = in-slice s p (p + 4)
+past-told s e p SixtyFourBit = in-slice s p (p + 8)
 
 beyond-told : (s : List ℕ) (e : ℕ) (x : Reached) (go : ℕ → WireType → Reached) (rules : ℕ → WireType → List Rule)
     → ((q : ℕ) (w : WireType) → reachedNumber (go q w) ≡ firstOf (rules q w))
     → reachedNumber (beyond s e x go) ≡ orElse (reachedNumber x) (firstOf (beyondRules s e x rules))
-beyond-told s e (reached.Refused r) go rules h = sym (refused-first r _)
+beyond-told s e (reached.Refused r f) go rules h = sym (refused-first r _)
 beyond-told s e (reached.To q) go rules h = on (repeats s e q) refl
   where
     on : (b : Bool) → repeats s e q ≡ b → reachedNumber (beyond s e (reached.To q) go) ≡ firstOf (beyondRules s e (reached.To q) rules)

@@ -15,7 +15,7 @@ use Rattle.text_hex.specs.declared.Frame.the-variants.{Bytes, Long, Hex}
 
 abbrev pub readVerdict : Read → ℕ
 readVerdict (Accepted e count) = 0
-readVerdict (Refused r p k) = numberOf r
+readVerdict (Refused r p k f) = numberOf r
 
 unfoldable pub messageVerdict : List ℕ → List ℕ → ℕ
 messageVerdict s table = readVerdict (readEntry s 0 (length s) table .answer)

@@ -8,15 +8,18 @@ use native.Mathlib.Nat.{sub-zero}
 use lib.Dec.{leb}
 use lib.ListN.{length, take, drop, length-take}
 use Rattle.wire.specs.Limits.{recordWords}
+use Rattle.wire.specs.Faults.{nowhere}
 use Rattle.wire.specs.Reading.{Message, Fields, readMessage}
 use Rattle.wire.specs.Reading as reading
 use Rattle.wire.specs.Table.{room, filled}
+use Rattle.wire.specs.declared.Fault.{Fault}
 use Rattle.wire.specs.declared.Refusal.{Refusal}
 use Rattle.wire.specs.declared.Refusal.the-variants.{NoRoom}
 use Rattle.wire.specs.declared.Field.{Field}
 use Rattle.wire.specs.declared.Read.{Read}
 use Rattle.wire.specs.declared.Read.the-variants.{Accepted, Refused}
 use Rattle.place.specs.Place.{Placed, placed, putAt, put-roomy}
+use Rattle.fault.specs.Fault.{messageFault}
 use Rattle.message_table.specs.Into.{Outcome, outcome, landed, readInto}
 use Rattle.text_hex.specs.Frame.{Framed, frameOf}
 use Rattle.text_hex.specs.Faults.{half-frame}
@@ -30,12 +33,12 @@ use Rattle.text_frames.specs.PrintLaws.{outcome-size}
 
 -- ---- an accepted answer is that of fields
 
-no-accept : {A : Type 0} {r : Refusal} {p n e count : ℕ} → Refused r p n ≡ Accepted e count → A
+no-accept : {A : Type 0} {r : Refusal} {p n e count : ℕ} {f : Fault} → Refused r p n f ≡ Accepted e count → A
 no-accept h = let z : _≡_ {A = ℕ} 0 1 = cc in absurd (omega arith)
 
-landed-accepts : (e : ℕ) (t : List ℕ) (m : Message) (x count : ℕ) (t′ : List ℕ) → outcome (Accepted x count) t′ ≡ landed e t m
+landed-accepts : (e : ℕ) (f : Fault) (t : List ℕ) (m : Message) (x count : ℕ) (t′ : List ℕ) → outcome (Accepted x count) t′ ≡ landed e f t m
     → (fs : List Field) × (m ≡ Fields fs) × (count ≡ length fs) × (t′ ≡ filled t fs)
-landed-accepts e t (Fields fs) x count t′ h = go (leb (length fs) (room t)) refl
+landed-accepts e f t (Fields fs) x count t′ h = go (leb (length fs) (room t)) refl
   where
     go : (b : Bool) → leb (length fs) (room t) ≡ b → (gs : List Field) × (Fields fs ≡ Fields gs) × (count ≡ length gs) × (t′ ≡ filled t gs)
     go true b =
@@ -43,9 +46,9 @@ landed-accepts e t (Fields fs) x count t′ h = go (leb (length fs) (room t)) re
         let a : Accepted x count ≡ Accepted e (length fs) = ap (λ (o : Outcome). o .answer) q in
         (fs, refl, cc, ap (λ (o : Outcome). o .table) q)
     go false b =
-        let q : outcome (Accepted x count) t′ ≡ outcome (Refused NoRoom 0 (length fs)) t = simp b at h in
+        let q : outcome (Accepted x count) t′ ≡ outcome (Refused NoRoom 0 (length fs) nowhere) t = simp b at h in
         no-accept (sym (ap (λ (o : Outcome). o .answer) q))
-landed-accepts e t (reading.Refused r p) x count t′ h = no-accept (sym (ap (λ (o : Outcome). o .answer) h))
+landed-accepts e f t (reading.Refused r p) x count t′ h = no-accept (sym (ap (λ (o : Outcome). o .answer) h))
 
 -- an answer by its case
 pub answered : {x y : Read} {t : List ℕ} {o : Outcome} → x ≡ y → outcome x t ≡ o → outcome y t ≡ o
@@ -69,7 +72,7 @@ pub closed : {out : List ℕ} {at : ℕ} {s : List ℕ} (f : Framable out at s) 
 unfolding readInto
 closed {out} {at} {s} f n t {e} {count} {t′} a =
     let o = entry-open s 0 (length s) t (omega (arith, f .short)) (omega arith) (omega arith) in
-    let x = landed-accepts (length s) t (readMessage s 0 (length s)) e count t′ (a ∙ o) in
+    let x = landed-accepts (length s) (messageFault s 0 (length s)) t (readMessage s 0 (length s)) e count t′ (a ∙ o) in
     record {
       has = record { fields = x .0; rest = drop (recordWords * length (x .0)) t; listed = x .3; many = x .2; inside = sized n s (x .0) (x .1) .inside };
       room = answer-room f n t a;

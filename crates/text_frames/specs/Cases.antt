@@ -3,6 +3,8 @@ use Prim.Native.Nat.{ℕ}
 use mathlib.Core.Path.{_≡_, refl}
 use mathlib.Core.List.{List, [], _∷_}
 use Rattle.wire.specs.Reading.{readMessage, fieldAt, varintAt}
+use Rattle.wire.specs.Faults.{looks}
+use Rattle.fault.specs.Fault.{keyFault, valueFault, fieldFault, messageFault}
 use Rattle.text_digits.specs.Digits.{digitOf, glyph, digits, placesTo, decimal, hexed}
 use Rattle.text_hex.specs.Frame.{decoded}
 use Rattle.text_frames.specs.Text.{printed, told, bytesText, valueText, fieldText}
@@ -22,7 +24,8 @@ case1 =
       output =
           49 ∷ 32 ∷ 70 ∷ 32 ∷ 49 ∷ 32 ∷ 48 ∷ 32 ∷ 70 ∷ 70 ∷ 70 ∷ 70 ∷ 70 ∷ 70 ∷ 70 ∷ 70 ∷ 70 ∷ 70 ∷ 70 ∷ 70 ∷ 70 ∷ 70 ∷ 70 ∷ 70 ∷ 10 ∷ 49 ∷ 32 ∷ 70
           ∷ 32 ∷ 51 ∷ 32 ∷ 49 ∷ 32 ∷ 67 ∷ 48 ∷ 68 ∷ 69 ∷ 10 ∷ 49 ∷ 32 ∷ 70 ∷ 32 ∷ 51 ∷ 32 ∷ 50 ∷ 32 ∷ 48 ∷ 49 ∷ 48 ∷ 48 ∷ 48 ∷ 48 ∷ 48 ∷ 48 ∷ 10 ∷ 49
-          ∷ 32 ∷ 79 ∷ 75 ∷ 32 ∷ 51 ∷ 32 ∷ 49 ∷ 57 ∷ 10 ∷ 50 ∷ 32 ∷ 78 ∷ 79 ∷ 32 ∷ 49 ∷ 32 ∷ 48 ∷ 10 ∷ 51 ∷ 32 ∷ 79 ∷ 75 ∷ 32 ∷ 48 ∷ 32 ∷ 48 ∷ 10 ∷ [];
+          ∷ 32 ∷ 79 ∷ 75 ∷ 32 ∷ 51 ∷ 32 ∷ 49 ∷ 57 ∷ 10 ∷ 50 ∷ 32 ∷ 78 ∷ 79 ∷ 32 ∷ 49 ∷ 32 ∷ 48 ∷ 32 ∷ 49 ∷ 32 ∷ 48 ∷ 10 ∷ 51 ∷ 32 ∷ 79
+          ∷ 75 ∷ 32 ∷ 48 ∷ 32 ∷ 48 ∷ 10 ∷ [];
     }
 
 -- Rule D2: nothing prints nothing
@@ -67,5 +70,6 @@ Right [] = Unit {0}
 Right (c ∷ cs) = (dumped (c .files) ≡ c .output) × Right cs
 
 pub cases : Right (case1 ∷ case2 ∷ case3 ∷ case4 ∷ case5 ∷ case6 ∷ case7 ∷ [])
-unfolding dumped printed told bytesText valueText fieldText decoded digitOf glyph digits placesTo decimal hexed readMessage fieldAt varintAt
+unfolding dumped printed told bytesText valueText fieldText decoded digitOf glyph digits placesTo decimal hexed readMessage fieldAt varintAt messageFault
+    fieldFault keyFault valueFault looks
 cases = (refl, (refl, (refl, (refl, (refl, (refl, (refl, tt)))))))

@@ -41,7 +41,7 @@ pub record Printing : Type 0 where
 abbrev pub answerText : ℕ → List ℕ → List ℕ → Read → List ℕ
 answerText n s table (Accepted e count) =
     fieldsText (headed n wordF) (items s (fieldsFrom count table 0)) ++ told n wordOK (count ∷ length s ∷ [])
-answerText n s table (Refused r p k) = told n wordNO (numberOf r ∷ p ∷ [])
+answerText n s table (Refused r p k f) = told n wordNO (numberOf r ∷ p ∷ f .place ∷ f .bytes ∷ [])
 
 unfoldable pub outcomeText : ℕ → List ℕ → Outcome → List ℕ
 outcomeText n s o = answerText n s (o .table) (o .answer)

@@ -16,6 +16,7 @@ use Rattle.wire.specs.Reading as reading
 use Rattle.wire.specs.Table.{room, fields-records}
 use Rattle.wire.specs.declared.Refusal.{Refusal}
 use Rattle.wire.specs.declared.Field.{Field}
+use Rattle.fault.specs.Fault.{messageFault}
 use Rattle.place.specs.Place.{put-front}
 use Rattle.message_table.specs.Into.{readInto, into-refused, into-no-room, into-fits}
 use Rattle.entry_message.specs.Messages.{readEntry, entry-open}
@@ -25,7 +26,7 @@ use Rattle.text_hex.specs.Faults.{half-frame, decoded-half}
 use Rattle.text_hex.specs.declared.Frame.{Frame}
 use Rattle.text_hex.specs.declared.Frame.the-variants.{Bytes, Long, Hex}
 use Rattle.text_frames.specs.Text.{headed, wordF, wordOK, wordNO, wordHEX, wordLONG, told, fieldsText, messageText, decodedText, printed}
-use Rattle.text_frames.specs.Room.{sized, told-none, told-two}
+use Rattle.text_frames.specs.Room.{sized, told-none, told-two, told-four}
 use Rattle.text_frames.specs.Print.{frameRoom, Printing, outcomeText, framePrinting, printFrame, print-none, print-frame}
 
 -- ---- a message of a frame, read and as text
@@ -35,12 +36,13 @@ module _ (n : ℕ) (s t : List ℕ) (short : length s ≤ 2048) where
   opened = entry-open s 0 (length s) t (omega arith) (omega arith) (omega arith)
 
   text-refused : (r : Refusal) (p : ℕ) → readMessage s 0 (length s) ≡ reading.Refused r p
-      → outcomeText n s (readEntry s 0 (length s) t) ≡ told n wordNO (numberOf r ∷ p ∷ [])
+      → let f = messageFault s 0 (length s) in
+      outcomeText n s (readEntry s 0 (length s) t) ≡ told n wordNO (numberOf r ∷ p ∷ f .place ∷ f .bytes ∷ [])
   unfolding outcomeText
   text-refused r p e = ap (outcomeText n s) (opened ∙ into-refused s 0 (length s) t r p e)
 
   text-no-room : (fs : List Field) → readMessage s 0 (length s) ≡ Fields fs → room t < length fs
-      → outcomeText n s (readEntry s 0 (length s) t) ≡ told n wordNO (5 ∷ 0 ∷ [])
+      → outcomeText n s (readEntry s 0 (length s) t) ≡ told n wordNO (5 ∷ 0 ∷ 0 ∷ 0 ∷ [])
   unfolding outcomeText
   text-no-room fs e h = ap (outcomeText n s) (opened ∙ into-no-room s 0 (length s) t fs e h)
 
@@ -66,12 +68,14 @@ module _ (n : ℕ) (s t : List ℕ) (short : length s ≤ 2048) where
   outcome-size = go (readMessage s 0 (length s)) refl
     where
       go : (m : Message) → readMessage s 0 (length s) ≡ m → length (outcomeText n s (readEntry s 0 (length s) t)) ≤ frameRoom
-      go (reading.Refused r p) e = rw (text-refused r p e) (omega (arith, told-two n wordNO (numberOf r) p))
+      go (reading.Refused r p) e =
+          let f = messageFault s 0 (length s) in
+          rw (text-refused r p e) (omega (arith, told-four n wordNO (numberOf r) p (f .place) (f .bytes)))
       go (Fields fs) e = by (leb (length fs) (room t)) refl
         where
           by : (b : Bool) → leb (length fs) (room t) ≡ b → length (outcomeText n s (readEntry s 0 (length s) t)) ≤ frameRoom
           by true b = rw (text-accepted fs e (leb-true (length fs) (room t) b)) (fields-size fs e)
-          by false b = rw (text-no-room fs e (leb-false (length fs) (room t) b)) (omega (arith, told-two n wordNO 5 0))
+          by false b = rw (text-no-room fs e (leb-false (length fs) (room t) b)) (omega (arith, told-four n wordNO 5 0 0 0))
 
   -- with room for every field it is the message's
   pub outcome-text : 4096 ≤ length t → outcomeText n s (readEntry s 0 (length s) t) ≡ messageText n s (readMessage s 0 (length s))

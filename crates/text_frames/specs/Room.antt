@@ -67,6 +67,23 @@ told-two n word a b =
       decimal-few b,
     )
 
+pub told-four : (n : ℕ) (word : List ℕ) (a b c d : ℕ) → length (told n word (a ∷ b ∷ c ∷ d ∷ [])) ≤ 105 + length word
+unfolding told
+told-four n word a b c d =
+    omega (
+      arith,
+      length-append (headed n word) (spaced (a ∷ b ∷ c ∷ d ∷ []) (10 ∷ [])),
+      length-append (decimal n) word,
+      length-append (decimal a) (spaced (b ∷ c ∷ d ∷ []) (10 ∷ [])),
+      length-append (decimal b) (spaced (c ∷ d ∷ []) (10 ∷ [])),
+      length-spaced c d (10 ∷ []),
+      decimal-few n,
+      decimal-few a,
+      decimal-few b,
+      decimal-few c,
+      decimal-few d,
+    )
+
 field-size : (n : ℕ) (i : Item) → length (fieldText (headed n wordF) i) ≤ 47 + length (valueText (i .content))
 unfolding fieldText
 field-size n i =

@@ -9,6 +9,7 @@ use Rattle.wire.specs.Fixed.{fixed}
 use Rattle.wire.specs.Written.{Content, Number, Payload, Four, Eight, Item, contentKind}
 use Rattle.wire.specs.Places.{items}
 use Rattle.wire.specs.Reading.{Message, Fields, Refused, readMessage}
+use Rattle.fault.specs.Fault.{messageFault}
 use Rattle.text_digits.specs.Digits.{digits, decimal, hexed}
 use Rattle.text_hex.specs.Frame.{Decoded, Decodes, Fails, decoded, lineLimit}
 
@@ -64,10 +65,10 @@ fieldsText head (i ∷ is) = fieldText head i ++ fieldsText head is
 
 -- ---- a frame
 
--- Rules D5 and D7: a message that was read: n F tag type value for each field, then n OK count bytes; or n NO number place
+-- Rules D5 and D7: a message that was read: n F tag type value for each field, then n OK count bytes; or n NO number place failing bytes
 abbrev pub messageText : ℕ → List ℕ → Message → List ℕ
 messageText n s (Fields fs) = fieldsText (headed n wordF) (items s fs) ++ told n wordOK (length fs ∷ length s ∷ [])
-messageText n s (Refused r p) = told n wordNO (numberOf r ∷ p ∷ [])
+messageText n s (Refused r p) = let f = messageFault s 0 (length s) in told n wordNO (numberOf r ∷ p ∷ f .place ∷ f .bytes ∷ [])
 
 abbrev pub decodedText : ℕ → Decoded → List ℕ
 decodedText n (Decodes bs) = messageText n bs (readMessage bs 0 (length bs))

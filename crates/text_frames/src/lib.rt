@@ -65,6 +65,28 @@ fn put_told(out: &mut [u8], at: usize, n: u64, word: &[u8], a: u64, b: u64) -> u
     put_char(out, r, b'\n')
 }
 
+// A line of a number, a word and four numbers.
+fn put_refused(
+    out: &mut [u8],
+    at: usize,
+    n: u64,
+    word: &[u8],
+    a: u64,
+    b: u64,
+    c: u64,
+    d: u64,
+) -> usize
+    requires { ⌜ Roomy (now out) at (told n (now word) (a ∷ b ∷ c ∷ d ∷ [])) ⌝ }
+    ensures { λ r. ⌜ record { next = r; buf = now (out .exit) } ≡ putAt (now (out .entry)) at (told n (now (word .entry)) (a ∷ b ∷ c ∷ d ∷ [])) ⌝ }
+{
+    let p = put_head(out, at, n, word);
+    let q = put_number(out, p, a);
+    let r = put_number(out, q, b);
+    let u = put_number(out, r, c);
+    let v = put_number(out, u, d);
+    put_char(out, v, b'\n')
+}
+
 // ---- a field
 
 // The bytes of a number on the wire.
@@ -172,13 +194,15 @@ fn put_message(out: &mut [u8], at: usize, n: u64, message: &[u8], table: &mut [u
     ensures { λ r. ⌜ Messaged (now (out .entry)) at n (now (message .entry)) (now (table .entry)) r (now (out .exit)) (now (table .exit)) ⌝ }
 {
     match entry_message::read_message(message, 0, message.len(), table) {
-        Read::Refused(r, place, _) => put_told(
+        Read::Refused(r, place, _, f) => put_refused(
             out,
             at,
             n,
             b" NO",
             wire::number_of(r),
             place as u64,
+            f.place as u64,
+            f.bytes as u64,
         ),
         Read::Accepted(_, count) => put_accepted(out, at, n, message, table, count),
     }

@@ -8,8 +8,8 @@ use Rattle.c_words.proofs.key_words.Tie as tie
 enum-known-k : tie.Need-enum-known-k
 enum-known-k c = search needs
 
-cast-t9 : tie.Need-cast-t9
-cast-t9 c = search needs
+cast-t10 : tie.Need-cast-t10
+cast-t10 c = search needs
 
 wire-number-requires : tie.Need-wire-number-requires
 wire-number-requires c κs = search needs
@@ -20,8 +20,8 @@ enum-known-k-2 c = search needs
 number-of-requires : tie.Need-number-of-requires
 number-of-requires c κs = search needs
 
-cast-t13 : tie.Need-cast-t13
-cast-t13 c = search needs
+cast-t14 : tie.Need-cast-t14
+cast-t14 c = search needs
 
 returns : tie.Need-returns
 returns c = rw (c .wire-number .ensures) (sym (ap keyTold (c .before .before .before .k .given .1)))
@@ -30,4 +30,4 @@ returns-2 : tie.Need-returns-2
 returns-2 c = rw (c .number-of .ensures) (sym (ap keyTold (c .before .before .k2 .given .1)))
 
 pub key-words-spec : {M : Type 1} → statement M
-key-words-spec = tie.close (tie.spec enum-known-k cast-t9 wire-number-requires enum-known-k-2 number-of-requires cast-t13 returns returns-2)
+key-words-spec = tie.close (tie.spec enum-known-k cast-t10 wire-number-requires enum-known-k-2 number-of-requires cast-t14 returns returns-2)

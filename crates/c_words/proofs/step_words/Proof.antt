@@ -11,8 +11,8 @@ enum-known-k c = search needs
 value-words-requires : tie.Need-value-words-requires
 value-words-requires c κs = search needs
 
-cast-t12 : tie.Need-cast-t12
-cast-t12 c = search needs
+cast-t13 : tie.Need-cast-t13
+cast-t13 c = search needs
 
 enum-told : tie.Need-enum-told
 enum-told c = search needs
@@ -44,7 +44,7 @@ step-words-spec =
     (tie.spec
     enum-known-k
     value-words-requires
-    cast-t12
+    cast-t13
     enum-told
     no-field-requires
     enum-known-k-2

@@ -10,14 +10,14 @@ read-message-requires c κs = search needs
 enum-known-r : tie.Need-enum-known-r
 enum-known-r c = search needs
 
-slice-aggregate-put-told : tie.Need-slice-aggregate-put-told
-slice-aggregate-put-told c = search needs
+slice-aggregate-put-refused : tie.Need-slice-aggregate-put-refused
+slice-aggregate-put-refused c = search needs
 
 number-of-requires : tie.Need-number-of-requires
 number-of-requires c κs = search needs
 
-put-told-requires : tie.Need-put-told-requires
-put-told-requires c κs =
+put-refused-requires : tie.Need-put-refused-requires
+put-refused-requires c κs =
     let far = c .before .before .before .before .before .before .before .before in
     let s = far .before .before .before .before .before in
     rw (c .number-of .ensures)
@@ -44,7 +44,7 @@ returns c =
     let s = far .before .before .before .before .before in
     answer-put (s .pre) (s .args .n) (s .args .table .now)
     (answered (c .before .before .before .before .before .before .before .r .given .1) (far .read-message .ensures))
-    (rw (c .before .before .before .number-of .ensures) at (c .before .before .put-told .ensures))
+    (rw (c .before .before .before .number-of .ensures) at (c .before .before .put-refused .ensures))
 
 same-length-3 : tie.Need-same-length-3
 same-length-3 c = search needs
@@ -66,9 +66,9 @@ put-message-spec =
     (tie.spec
     read-message-requires
     enum-known-r
-    slice-aggregate-put-told
+    slice-aggregate-put-refused
     number-of-requires
-    put-told-requires
+    put-refused-requires
     enum-known-count
     put-accepted-requires
     same-length
