@@ -18,10 +18,10 @@ pub(crate) fn ask_varint(letter: u8, s: &[u8], words: &Words, ours: &mut Words) 
     let at = words[0] as usize;
     if letter == letter::DECODE_VARINT {
         let r = capgauze_c::capgauze_decode_varint(s, at);
-        return lent::three(ours, r.number, r.value, r.place);
+        return lent::four(ours, r.number, r.value, r.place, r.bytes);
     }
     let r = capgauze_c::capgauze_decode_varint_capped(s, at, words[1] as usize);
-    lent::three(ours, r.number, r.value, r.place)
+    lent::four(ours, r.number, r.value, r.place, r.bytes)
 }
 
 // A signed value of its two words.
@@ -118,15 +118,18 @@ pub(crate) fn ask_field(letter: u8, s: &[u8], words: &Words, ours: &mut Words) -
     match letter {
         letter::DECODE_KEY => {
             let r = capgauze_c::capgauze_decode_key(s, at, end, tag_of(words[2]));
-            lent::four(ours, r.number, r.tag, r.kind, r.place)
+            let n = lent::four(ours, r.number, r.tag, r.kind, r.place);
+            lent::fault(ours, n, r.failing, r.bytes)
         }
         letter::DECODE_VALUE => {
             let r = capgauze_c::capgauze_decode_value(s, at, end, words[2]);
-            lent::four(ours, r.number, r.value, r.length, r.place)
+            let n = lent::four(ours, r.number, r.value, r.length, r.place);
+            lent::fault(ours, n, r.failing, r.bytes)
         }
         letter::SKIP_FIELD => {
             let r = capgauze_c::capgauze_skip_field(s, at, end, words[2]);
-            lent::two(ours, r.number, r.place)
+            let n = lent::two(ours, r.number, r.place);
+            lent::fault(ours, n, r.failing, r.bytes)
         }
         _ => ask_step(s, at, end, tag_of(words[2]), ours),
     }
@@ -138,5 +141,5 @@ fn ask_step(s: &[u8], at: usize, end: usize, last: u32, ours: &mut Words) -> usi
     ours[4] = r.value;
     ours[5] = r.length;
     ours[6] = r.place;
-    7
+    lent::fault(ours, 7, r.failing, r.bytes)
 }

@@ -121,6 +121,12 @@ pub(crate) fn four(ours: &mut Words, a: u64, b: u64, c: u64, d: u64) -> usize {
     4
 }
 
+// Where the failing read began, and the bytes that it looked at, behind an answer's other words.
+pub(crate) fn fault(ours: &mut Words, n: usize, failing: u64, bytes: u64) -> usize {
+    let m = keep(ours, n, failing);
+    keep(ours, m, bytes)
+}
+
 // Half a word of a sum. The sum's remainder is taken first too, so that nothing is asked of it.
 pub(crate) fn mix(sum: u64, half: u64) -> u64 {
     (sum % 4_294_967_291 * 65_599 + half % 0x1_0000_0000) % 4_294_967_291

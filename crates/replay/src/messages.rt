@@ -10,17 +10,17 @@ use super::line;
 use super::line::Words;
 use c_words::LookupWords;
 use c_words::PickWords;
+use c_words::ReadWords;
 use wire::RECORD_WORDS;
 use wire::Refusal;
 
 // The fields of a tag that an answer has room for.
 const FIELDS: usize = 600;
 
-// The answer with what was found behind its three words, or with the sum in place of that.
-fn seen_or_sum(summed: bool, seen: Seen, ours: &mut Words) -> usize {
+// The answer with what was found behind its first words, or with the sum in place of that.
+fn seen_or_sum(summed: bool, seen: Seen, ours: &mut Words, first: usize) -> usize {
     if summed {
-        ours[3] = seen.sum;
-        return 4;
+        return lent::keep(ours, first, seen.sum);
     }
     seen.words
 }
@@ -61,22 +61,16 @@ fn record_words(number: u64, count: u64) -> usize {
     count as usize * RECORD_WORDS
 }
 
-fn read_told(
-    letter: u8,
-    number: u64,
-    place: u64,
-    count: u64,
-    table: &[u64],
-    ours: &mut Words,
-) -> usize {
-    lent::three(ours, number, place, count);
+fn read_told(letter: u8, r: ReadWords, table: &[u64], ours: &mut Words) -> usize {
+    let n = lent::three(ours, r.number, r.place, r.count);
+    let first = lent::fault(ours, n, r.failing, r.bytes);
     let part = Part {
         start: 0,
-        length: record_words(number, count),
+        length: record_words(r.number, r.count),
         fill: FILL_WORD,
     };
-    let seen = lent::look_at_words(table, part, ours, 3);
-    seen_or_sum(is_summed(letter), seen, ours)
+    let seen = lent::look_at_words(table, part, ours, first);
+    seen_or_sum(is_summed(letter), seen, ours, first)
 }
 
 pub(crate) fn ask_read(
@@ -89,10 +83,10 @@ pub(crate) fn ask_read(
     blank(table);
     if letter == letter::READ_PAYLOAD {
         let r = capgauze_c::capgauze_read_payload(s, words[0], words[1], words[2], words[3], table);
-        return read_told(letter, r.number, r.place, r.count, table, ours);
+        return read_told(letter, r, table, ours);
     }
     let r = capgauze_c::capgauze_read_message(s, words[0] as usize, words[1] as usize, table);
-    read_told(letter, r.number, r.place, r.count, table, ours)
+    read_told(letter, r, table, ours)
 }
 
 pub(crate) fn ask_payload(s: &[u8], words: &Words, ours: &mut Words) -> usize {
@@ -185,7 +179,7 @@ fn written_told(
         fill: line::wide(FILL_BYTE),
     };
     let seen = lent::look_at_bytes(buf, part, ours, 3);
-    seen_or_sum(is_summed(letter), seen, ours)
+    seen_or_sum(is_summed(letter), seen, ours, 3)
 }
 
 fn write_into(
