@@ -63,12 +63,12 @@ enum {
  * ThirtyTwoBit value below 2^32, and a payload inside the source. */
 
 typedef struct { uint64_t number, value; } capgauze_number; /* a length or a count */
-typedef struct { uint64_t number, value, place; } capgauze_varint;
-typedef struct { uint64_t number, place; } capgauze_place;
-typedef struct { uint64_t number, tag, type, place; } capgauze_key;
-typedef struct { uint64_t number, value, length, place; } capgauze_value;
-typedef struct { uint64_t number, found, tag, type, value, length, place; } capgauze_step;
-typedef struct { uint64_t number, place, count; } capgauze_read;
+typedef struct { uint64_t number, value, place, bytes; } capgauze_varint;
+typedef struct { uint64_t number, place, failing, bytes; } capgauze_place;
+typedef struct { uint64_t number, tag, type, place, failing, bytes; } capgauze_key;
+typedef struct { uint64_t number, value, length, place, failing, bytes; } capgauze_value;
+typedef struct { uint64_t number, found, tag, type, value, length, place, failing, bytes; } capgauze_step;
+typedef struct { uint64_t number, place, count, failing, bytes; } capgauze_read;
 typedef struct { uint64_t number, start, length; } capgauze_written;
 typedef struct { uint64_t number, found, type, value, length; } capgauze_picked;
 typedef struct { uint64_t number, count, found, type, value, length; } capgauze_several;
@@ -86,7 +86,11 @@ uint64_t capgauze_i64_to_unsigned(int64_t v);
 int64_t capgauze_u64_to_signed(uint64_t u);
 
 /* ---- One part of a message ----
- * Refusals in order: 4, 8, then 1 to 3 as met. A refused reader answers the place it was given, and 0 as value. */
+ * Refusals in order: 4, 8, then 1 to 3 as met. A refused reader answers the place it was given, and 0 as value. With 1 to
+ * 3 `failing` is the place where the read that failed began: a key's, a Varint's or a fixed value's first byte, or the first
+ * byte of a payload's length, also where the payload is too long; of a varint it is the place given. `bytes` is how many
+ * bytes of a varint that read looked at, 1 to 9, or 0 at the slice's end and where no varint was refused. Accepted, and with
+ * 4, 5, 6 and 8, both are 0. */
 
 /* The varint at `at`: its value and the place after it. */
 capgauze_varint capgauze_decode_varint(const uint8_t *s, size_t s_len, size_t at);
@@ -118,7 +122,7 @@ capgauze_step capgauze_step_at(const uint8_t *s, size_t s_len, size_t at, size_t
  * the table's first words are their records; the words behind them stay. Refused: the table stays as it was. NoRoom: place
  * 0, count is the number of fields that need room. TooLong, BadCap: 0, 0. Truncated, InvalidVarint, TagOverflowed: the
  * place of the first byte of the field being read, or of the last field read if that one passed the end (the start, if
- * no field was read); count 0. */
+ * no field was read); count 0; failing and bytes as above, and the place reached with 0 where the end was passed. */
 capgauze_read capgauze_read_message(const uint8_t *s, size_t s_len, size_t start, size_t end, uint64_t *table,
                                     size_t words);
 

@@ -79,42 +79,50 @@ static void numbers(void) {
 
 static void parts(void) {
     use("");
-    SAME(capgauze_decode_varint(S, 0), 1, 0, 0);
-    SAME(capgauze_decode_varint(S, 1), 8, 0, 1);
+    SAME(capgauze_decode_varint(S, 0), 1, 0, 0, 0);
+    SAME(capgauze_decode_varint(S, 1), 8, 0, 1, 0);
     use("8000");
-    SAME(capgauze_decode_varint(S, 0), 0, 128, 2);
-    SAME(capgauze_decode_varint_capped(S, 0, 1), 0, 128, 2);
+    SAME(capgauze_decode_varint(S, 0), 0, 128, 2, 0);
+    SAME(capgauze_decode_varint_capped(S, 0, 1), 0, 128, 2, 0);
     use("80FFFEFEFEFEFEFEFE");
-    SAME(capgauze_decode_varint(S, 0), 2, 0, 0);
-    SAME(capgauze_decode_varint_capped(S, 0, 8), 1, 0, 0);
+    SAME(capgauze_decode_varint(S, 0), 2, 0, 0, 9);
+    SAME(capgauze_decode_varint_capped(S, 0, 8), 1, 0, 0, 9); /* renamed: nine bytes all the same */
+    SAME(capgauze_decode_varint(S, 1), 1, 0, 1, 8);
     use("FCFEFEFE3E");
-    SAME(capgauze_decode_key(S, 0, 5, 0), 0, 4294967295, 0, 5);
-    SAME(capgauze_decode_key(S, 0, 5, 1), 3, 1, 0, 0);
-    SAME(capgauze_decode_key(S, 0, 6, 9), 8, 9, 0, 0);
+    SAME(capgauze_decode_key(S, 0, 5, 0), 0, 4294967295, 0, 5, 0, 0);
+    SAME(capgauze_decode_key(S, 0, 5, 1), 3, 1, 0, 0, 0, 0);
+    SAME(capgauze_decode_key(S, 5, 5, 1), 1, 1, 0, 5, 5, 0);
+    SAME(capgauze_decode_key(S, 0, 6, 9), 8, 9, 0, 0, 0, 0);
     use("02AABB05");
-    SAME(capgauze_decode_value(S, 0, 4, CAPGAUZE_LENGTH_DELIMITED), 0, 1, 2, 3);
-    SAME(capgauze_decode_value(S, 0, 4, CAPGAUZE_THIRTY_TWO_BIT), 0, 0x05BBAA02, 4, 4);
-    SAME(capgauze_decode_value(S, 1, 4, CAPGAUZE_THIRTY_TWO_BIT), 1, 0, 0, 1);
-    SAME(capgauze_decode_value(S, 9, 9, 4), 6, 0, 0, 9); /* no wire type: before anything else */
+    SAME(capgauze_decode_value(S, 0, 4, CAPGAUZE_LENGTH_DELIMITED), 0, 1, 2, 3, 0, 0);
+    SAME(capgauze_decode_value(S, 0, 4, CAPGAUZE_THIRTY_TWO_BIT), 0, 0x05BBAA02, 4, 4, 0, 0);
+    SAME(capgauze_decode_value(S, 1, 4, CAPGAUZE_THIRTY_TWO_BIT), 1, 0, 0, 1, 1, 0);
+    SAME(capgauze_decode_value(S, 3, 4, CAPGAUZE_LENGTH_DELIMITED), 1, 0, 0, 3, 3, 0); /* a length too long */
+    SAME(capgauze_decode_value(S, 1, 4, CAPGAUZE_LENGTH_DELIMITED), 1, 0, 0, 1, 1, 0);
+    SAME(capgauze_decode_value(S, 9, 9, 4), 6, 0, 0, 9, 0, 0); /* no wire type: before anything else */
     use("0500060407");
-    SAME(capgauze_skip_field(S, 0, 5, CAPGAUZE_VARINT), 0, 3);
-    SAME(capgauze_skip_field(S, 0, 6, CAPGAUZE_VARINT), 8, 0);
-    SAME(capgauze_skip_field(S, 3, 5, UINT64_MAX), 6, 3);
+    SAME(capgauze_skip_field(S, 0, 5, CAPGAUZE_VARINT), 0, 3, 0, 0);
+    SAME(capgauze_skip_field(S, 0, 6, CAPGAUZE_VARINT), 8, 0, 0, 0);
+    SAME(capgauze_skip_field(S, 3, 5, UINT64_MAX), 6, 3, 0, 0);
+    use("000180");
+    SAME(capgauze_skip_field(S, 0, 3, CAPGAUZE_VARINT), 1, 0, 2, 1); /* a later value failed */
     use("008000");
-    SAME(capgauze_step_at(S, 0, 2, 7), 0, 1, 7, 0, 128, 0, 3);
-    SAME(capgauze_step_at(S, 2, 2, 7), 0, 0, 7, 0, 0, 0, 2);
-    SAME(capgauze_step_at(S, 3, 2, 7), 1, 0, 7, 0, 0, 0, 3);
+    SAME(capgauze_step_at(S, 0, 2, 7), 0, 1, 7, 0, 128, 0, 3, 0, 0);
+    SAME(capgauze_step_at(S, 2, 2, 7), 0, 0, 7, 0, 0, 0, 2, 0, 0);
+    SAME(capgauze_step_at(S, 3, 2, 7), 1, 0, 7, 0, 0, 0, 3, 3, 0);
 }
 
 static void messages(void) {
     use("04FFFEFEFEFEFEFEFEFE0902C0DE0201000000");
     lay(13, 0);
-    SAME(capgauze_read_message(S, 0, len, TABLE), 0, 19, 3);
+    SAME(capgauze_read_message(S, 0, len, TABLE), 0, 19, 3, 0, 0);
     TABLE_IS(1, 0, UINT64_MAX, 0, 3, 1, 12, 2, 3, 2, 1, 4, 77);
     lay(11, 0);
-    SAME(capgauze_read_message(S, 0, len, TABLE), 5, 0, 3);
-    SAME(capgauze_read_message(S, 0, 18, TABLE), 1, 14, 0);
-    SAME(capgauze_read_message(S, 0, 20, TABLE), 8, 0, 0);
+    SAME(capgauze_read_message(S, 0, len, TABLE), 5, 0, 3, 0, 0);
+    SAME(capgauze_read_message(S, 0, 18, TABLE), 1, 14, 0, 15, 0);
+    SAME(capgauze_read_message(S, 0, 13, TABLE), 1, 10, 0, 11, 0);
+    SAME(capgauze_read_message(S, 0, 5, TABLE), 1, 0, 0, 10, 0); /* the end was passed */
+    SAME(capgauze_read_message(S, 0, 20, TABLE), 8, 0, 0, 0, 0);
     TABLE_IS(77, 77, 77, 77, 77, 77, 77, 77, 77, 77, 77);
     SAME(capgauze_pick(S, 3), 11, 0, 0, 0, 0);
     SAME(capgauze_pick(S, 1), 0, 1, 0, UINT64_MAX, 0);
@@ -139,13 +147,13 @@ static void messages(void) {
     SAME(capgauze_payload_of(S, 0, 0, 4, 0), 0, 0);
     SAME(capgauze_payload_of(S, 0, 1, UINT64_MAX, 2), 0, 0);
     lay(4, 0);
-    SAME(capgauze_read_payload(S, 0, 1, 4, 2, TABLE), 0, 2, 1); /* 04 00 */
+    SAME(capgauze_read_payload(S, 0, 1, 4, 2, TABLE), 0, 2, 1, 0, 0); /* 04 00 */
     TABLE_IS(1, 0, 0, 0);
-    SAME(capgauze_read_payload(S, 0, 1, 4, 3, TABLE), 1, 2, 0); /* and 01 */
-    SAME(capgauze_read_payload(S, 0, 0, 4, 0, TABLE), 0, 0, 0);
+    SAME(capgauze_read_payload(S, 0, 1, 4, 3, TABLE), 1, 2, 0, 3, 0); /* and 01 */
+    SAME(capgauze_read_payload(S, 0, 0, 4, 0, TABLE), 0, 0, 0, 0, 0);
     len = CAPGAUZE_LIMIT + 1;
     bytes = lend(len);
-    SAME(capgauze_read_message(S, 0, 0, TABLE), 4, 0, 0);
+    SAME(capgauze_read_message(S, 0, 0, TABLE), 4, 0, 0, 0, 0);
     SAME(capgauze_pick(S, 0), 4, 0, 0, 0, 0);
     SAME(capgauze_payload_of(S, 0, 1, 0, len), 0, len);
 }
@@ -494,7 +502,7 @@ static void longest(void) {
     bytes = lend(len); /* zeros */
     bytes[len - 2] = 0x80;
     lay(CAPGAUZE_RECORD_WORDS * FIELDS, 0);
-    SAME(capgauze_read_message(S, 0, len, TABLE), 0, CAPGAUZE_LIMIT, FIELDS);
+    SAME(capgauze_read_message(S, 0, len, TABLE), 0, CAPGAUZE_LIMIT, FIELDS, 0, 0);
     SAME((uint64_t)table[4 * FIELDS - 2], 128);
     room(CAPGAUZE_LIMIT);
     SAME(capgauze_encode_message(S, TABLE, FIELDS, BUF), 0, 0, CAPGAUZE_LIMIT);
@@ -509,11 +517,11 @@ static void longest(void) {
     table[4 * FIELDS - 4] = 32; /* its key takes one byte more than may be written */
     SAME(capgauze_encode_message(S, TABLE, FIELDS, buf, 0), 4, 0, 0); /* before NoRoom */
     lay(4 * FIELDS - 1, 0);
-    SAME(capgauze_read_message(S, 0, len, TABLE), 5, 0, FIELDS);
+    SAME(capgauze_read_message(S, 0, len, TABLE), 5, 0, FIELDS, 0, 0);
     SAME(capgauze_pick(S, 1), 0, 0, 0, 0, 0);
     SAME(capgauze_pick_at(S, 0, FIELDS - 1), 0, FIELDS, 1, 0, 128, 0);
     SAME(capgauze_pick_early(S, 0), 11, 0, 0, 0, 0, 0);
-    SAME(capgauze_skip_field(S, 1, len, CAPGAUZE_VARINT), 0, CAPGAUZE_LIMIT);
+    SAME(capgauze_skip_field(S, 1, len, CAPGAUZE_VARINT), 0, CAPGAUZE_LIMIT, 0, 0);
     /* the most tags, and the longest line */
     bytes[len - 2] = 0;
     len--;

@@ -6,7 +6,7 @@ object that build.sh makes of the proved archive.
     >>> table = words(8)
     >>> read_message(bytes.fromhex("04FFFEFEFEFEFEFEFEFE0902C0DE0201000000"), table)
     Traceback (most recent call last):
-    capgauze.Refused: NoRoom (5): place 0, count 3
+    capgauze.Refused: NoRoom (5): the table has no room for 3 fields
 
 A message is bytes, or anything that has its buffer. A table is a writable buffer of 64-bit words, four a record: what
 `words` makes, an array('Q'), a numpy array of uint64. A buffer to be written to is a bytearray or the like. Memory that
@@ -50,12 +50,32 @@ Sounding = namedtuple("Sounding", "station launch levels")
 Level = namedtuple("Level", "pressure_pa temperature_c dewpoint_depression_c")
 
 
-class Refused(ValueError):
-    """A refusal: its number and name, and by name what it carries (place, count, start, tag ..)."""
+# What a reader was reading, and why it was refused.
+_READING = {"decode_varint": "the varint", "decode_varint_capped": "the varint", "decode_key": "the key",
+            "decode_value": "the value", "skip_field": "what is skipped", "step_at": "the field",
+            "read_message": "the message's field", "read_payload": "the payload's field"}
+_IN_THE_BYTES = {1: "ends too soon", 2: "has a varint of 2^64 or more", 3: "has a tag above 4,294,967,295"}
+_BEFORE_THEM = {4: f"the slice has more than {LIMIT:,} bytes", 5: "the table has no room for {count} fields",
+                6: "there is no such wire type", 8: "a place, a start or an end is above the slice's length"}
 
-    def __init__(self, number, carried):
+
+def _sentence(number, reading, carried):
+    """A reader's refusal."""
+    if number not in _IN_THE_BYTES:
+        return _BEFORE_THEM[number].format(**carried)
+    began = carried.get("failing", carried["place"])
+    looked = {0: "", 1: " and looked at 1 byte of a varint"}
+    return (f"{reading} at {carried['place']} {_IN_THE_BYTES[number]}; the failing read began at {began}"
+            + looked.get(carried["bytes"], f" and looked at {carried['bytes']} bytes of a varint"))
+
+
+class Refused(ValueError):
+    """A refusal: its number and name, and by name what it carries (place, count, failing, bytes, start, tag ..)."""
+
+    def __init__(self, number, carried, reading=None):
         self.number, self.name, self.carried = number, NAMES[number], carried
-        told = ", ".join(f"{key} {value}" for key, value in carried.items())
+        listed = ", ".join(f"{key} {value}" for key, value in carried.items())
+        told = _sentence(number, reading, carried) if reading else listed
         super().__init__(f"{self.name} ({number})" + (f": {told}" if told else ""))
 
 
@@ -71,8 +91,8 @@ _BYTES = (ctypes.POINTER(ctypes.c_uint8), _SIZE)
 _TABLE = (ctypes.POINTER(_U64), _SIZE)
 _RECORD = (_U64,) * 4
 
-_NUMBER, _VARINT = _answer("number value"), _answer("number value place")
-_READ, _WRITTEN = _answer("number place count"), _answer("number start length")
+_NUMBER, _VARINT = _answer("number value"), _answer("number value place bytes")
+_READ, _WRITTEN = _answer("number place count failing bytes"), _answer("number start length")
 
 _ENTRIES = {
     "encoded_len_varint": (_U64, _U64),
@@ -82,13 +102,13 @@ _ENTRIES = {
     "decode_varint_capped": (_VARINT, *_BYTES, _SIZE, _SIZE),
     "encode_varint": (_NUMBER, _U64, *_BYTES),
     "prepend_varint": (_NUMBER, _U64, *_BYTES),
-    "decode_key": (_answer("number tag type place"), *_BYTES, _SIZE, _SIZE, _U32),
+    "decode_key": (_answer("number tag type place failing bytes"), *_BYTES, _SIZE, _SIZE, _U32),
     "encode_key": (_NUMBER, _U32, _U32, _U64, *_BYTES),
     "prepend_key": (_NUMBER, _U32, _U32, _U64, *_BYTES),
     "key_len": (_NUMBER, _U32, _U32),
-    "decode_value": (_answer("number value length place"), *_BYTES, _SIZE, _SIZE, _U64),
-    "skip_field": (_answer("number place"), *_BYTES, _SIZE, _SIZE, _U64),
-    "step_at": (_answer("number found tag type value length place"), *_BYTES, _SIZE, _SIZE, _U32),
+    "decode_value": (_answer("number value length place failing bytes"), *_BYTES, _SIZE, _SIZE, _U64),
+    "skip_field": (_answer("number place failing bytes"), *_BYTES, _SIZE, _SIZE, _U64),
+    "step_at": (_answer("number found tag type value length place failing bytes"), *_BYTES, _SIZE, _SIZE, _U32),
     "read_message": (_READ, *_BYTES, _SIZE, _SIZE, *_TABLE),
     "payload_of": (_answer("start length"), *_BYTES, *_RECORD),
     "read_payload": (_READ, *_BYTES, *_RECORD, *_TABLE),
@@ -156,8 +176,9 @@ def _accepted(name, *arguments):
     if number:
         names = [] if name in _NUMBER_ALONE else [field for field, _ in _ENTRIES[name][0]._fields_[1:]]
         names = ["start", "needed"] if _ENTRIES[name][0] is _WRITTEN else names
-        raise Refused(number, dict(zip(names, words)))
-    return words
+        raise Refused(number, dict(zip(names, words)), _READING.get(name))
+    told = [field for field, _ in _ENTRIES[name][0]._fields_[1:]]
+    return [word for field, word in zip(told, words) if field not in ("failing", "bytes")]
 
 
 def _end(s, end):

@@ -78,9 +78,10 @@ class Replay:
     def read(self, name, summed=False):
         def answer(*asked):
             self.table = array("Q", [FILL]) * asked[-1]
-            number, place, count = call(name, *lent(self.source), *asked[:-1], *self.lent_table())
+            told = call(name, *lent(self.source), *asked[:-1], *self.lent_table())
+            number, _, count, *_ = told
             rest = [total(self.table)] if summed else shown(self.table, 0, 0 if number else RECORD * count, FILL)
-            return [number, place, count, *rest]
+            return [*told, *rest]
         return answer
 
     def write(self, name, summed=False):

@@ -32,23 +32,44 @@ class Refusals(unittest.TestCase):
     def test_each_number(self):
         one, two = array("Q", (1, 0, 7, 0)), array("Q", (1, 0, 7, 0, 0, 0, 7, 0))
         read = capgauze.read_message
-        self.refused(1, read, b"\x04", one, place=0, count=0)
-        self.refused(2, capgauze.decode_varint, bytes.fromhex("80FFFEFEFEFEFEFEFE"), value=0, place=0)
-        self.refused(3, capgauze.decode_key, bytes.fromhex("FCFEFEFE3E"), 0, 5, 1, tag=1, type=0, place=0)
-        self.refused(4, read, bytes(capgauze.LIMIT + 1), one, 0, 0, place=0, count=0)
-        self.refused(5, read, b"\x04\x07\x00\x08", one, place=0, count=2)
+        self.refused(1, read, b"\x04", one, place=0, count=0, failing=1, bytes=0)
+        self.refused(2, capgauze.decode_varint, bytes.fromhex("80FFFEFEFEFEFEFEFE"), value=0, place=0, bytes=9)
+        self.refused(3, capgauze.decode_key, bytes.fromhex("FCFEFEFE3E"), 0, 5, 1, tag=1, type=0, place=0, failing=0,
+                     bytes=0)
+        self.refused(4, read, bytes(capgauze.LIMIT + 1), one, 0, 0, place=0, count=0, failing=0, bytes=0)
+        self.refused(5, read, b"\x04\x07\x00\x08", one, place=0, count=2, failing=0, bytes=0)
         self.refused(5, capgauze.prepend_message, b"", one, 1, bytearray(1), start=0, needed=2)
         self.refused(6, capgauze.encode_message, b"", one, 2, bytearray(), start=1, needed=0)
-        self.refused(6, capgauze.decode_value, b"", 9, 9, 4, value=0, length=0, place=9)
+        self.refused(6, capgauze.decode_value, b"", 9, 9, 4, value=0, length=0, place=9, failing=0, bytes=0)
         self.refused(7, capgauze.encode_message, b"", two, 2, bytearray(9), start=1, needed=0)
-        self.refused(8, read, b"\x04\x07", one, 0, 3, place=0, count=0)
+        self.refused(8, read, b"\x04\x07", one, 0, 3, place=0, count=0, failing=0, bytes=0)
         self.assertEqual(one, array("Q", (1, 0, 7, 0)))
 
     def test_names(self):
-        with self.assertRaisesRegex(capgauze.Refused, r"^Truncated \(1\): place 2, count 0$") as caught:
+        with self.assertRaises(capgauze.Refused) as caught:
             capgauze.records(b"\x04\x07\x00")
         self.assertEqual(caught.exception.name, "Truncated")
         self.assertIsInstance(caught.exception, ValueError)
+
+    def test_a_sentence(self):
+        """A damaged message of each kind."""
+        truncated, began = "Truncated (1): the message's field at", "ends too soon; the failing read began at"
+        for damaged, end, said in (
+                ("04", 1, f"{truncated} 0 {began} 1"),
+                ("00070080", 4, f"{truncated} 2 {began} 3 and looked at 1 byte of a varint"),
+                ("00078080", 4, f"{truncated} 2 {began} 2 and looked at 2 bytes of a varint"),
+                ("0103AA", 3, f"{truncated} 0 {began} 1"),
+                ("020102", 3, f"{truncated} 0 {began} 1"),
+                ("008000", 2, f"{truncated} 0 {began} 3"),
+                ("00" + 9 * "FF", 10, "InvalidVarint (2): the message's field at 0 has a varint of 2^64 or more; "
+                                      "the failing read began at 1 and looked at 9 bytes of a varint"),
+                ("80FFFEFE3E00", 6, "TagOverflowed (3): the message's field at 0 has a tag above 4,294,967,295; "
+                                    "the failing read began at 0"),
+                ("", 1, "BadCap (8): a place, a start or an end is above the slice's length"),
+                ("0007", 2, "NoRoom (5): the table has no room for 1 fields")):
+            with self.assertRaises(capgauze.Refused) as caught:
+                capgauze.read_message(bytes.fromhex(damaged), array("Q"), 0, end)
+            self.assertEqual(str(caught.exception), said)
 
     def test_insertion(self):
         table = array("Q", (1, 0, 7, 0, 5, 5, 5, 5))

@@ -9,12 +9,12 @@ macro_rules! answers {
 
 answers! {
     Number { number, value }
-    Varint { number, value, place }
-    Place { number, place }
-    Key { number, tag, kind, place }
-    Value { number, value, length, place }
-    Step { number, found, tag, kind, value, length, place }
-    Read { number, place, count }
+    Varint { number, value, place, bytes }
+    Place { number, place, failing, bytes }
+    Key { number, tag, kind, place, failing, bytes }
+    Value { number, value, length, place, failing, bytes }
+    Step { number, found, tag, kind, value, length, place, failing, bytes }
+    Read { number, place, count, failing, bytes }
     Written { number, start, length }
     Picked { number, found, kind, value, length }
     Several { number, count, found, kind, value, length }

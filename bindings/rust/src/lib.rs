@@ -90,7 +90,22 @@ fn varint(answer: ffi::Varint) -> Result<Decoded<u64>, RefusedAt> {
     let place = answer.place as usize;
     match accepted(answer.number) {
         Ok(()) => Ok(Decoded { value: answer.value, next: place }),
-        Err(refusal) => Err(RefusedAt { refusal, place }),
+        Err(refusal) => {
+            let fault = varint_fault(refusal, place, answer.bytes);
+            Err(RefusedAt { refusal, reading: Reading::Varint, place, fault })
+        }
+    }
+}
+
+fn fault(failing: u64, bytes: u64) -> Fault {
+    Fault { place: failing as usize, bytes: bytes as usize }
+}
+
+/// The read that failed in a varint is the varint's; the other refusals are not met in the bytes.
+fn varint_fault(refusal: Refusal, place: usize, bytes: u64) -> Fault {
+    match refusal {
+        Refusal::Truncated | Refusal::InvalidVarint => Fault { place, bytes: bytes as usize },
+        _ => Fault::default(),
     }
 }
 
@@ -103,7 +118,10 @@ fn read(answer: ffi::Read) -> Result<Read, RefusedRead> {
     let (place, count) = (answer.place as usize, answer.count as usize);
     match accepted(answer.number) {
         Ok(()) => Ok(Read { place, count }),
-        Err(refusal) => Err(RefusedRead { refusal, place, count }),
+        Err(refusal) => {
+            let fault = fault(answer.failing, answer.bytes);
+            Err(RefusedRead { refusal, place, count, fault })
+        }
     }
 }
 
@@ -164,9 +182,10 @@ pub fn u64_to_signed(u: u64) -> i64 {
 /// The varint at a place. Refusals: TooLong, BadCap, Truncated, InvalidVarint.
 ///
 /// ```
-/// # use capgauze::{decode_varint, Decoded, Refusal, RefusedAt};
+/// # use capgauze::{decode_varint, Decoded, Fault, Refusal};
 /// assert_eq!(decode_varint(&[0x80, 0x00], 0), Ok(Decoded { value: 128, next: 2 }));
-/// assert_eq!(decode_varint(&[0x80], 0), Err(RefusedAt { refusal: Refusal::Truncated, place: 0 }));
+/// let refused = decode_varint(&[0x80], 0).unwrap_err();
+/// assert_eq!((refused.refusal, refused.fault), (Refusal::Truncated, Fault { place: 0, bytes: 1 }));
 /// ```
 pub fn decode_varint(s: &[u8], at: usize) -> Result<Decoded<u64>, RefusedAt> {
     varint(unsafe { ffi::capgauze_decode_varint(s.as_ptr(), s.len(), at) })
@@ -203,7 +222,10 @@ pub fn decode_key(
         Ok(()) => {
             Ok(Decoded { value: Key { tag, wire_type: wire_type(answer.kind) }, next: place })
         }
-        Err(refusal) => Err(RefusedAfter { refusal, place, last: tag }),
+        Err(refusal) => {
+            let fault = fault(answer.failing, answer.bytes);
+            Err(RefusedAfter { refusal, reading: Reading::Key, place, last: tag, fault })
+        }
     }
 }
 
@@ -228,7 +250,10 @@ pub fn decode_value(
     let place = answer.place as usize;
     match accepted(answer.number) {
         Ok(()) => Ok(Decoded { value: value(kind, answer.value, answer.length), next: place }),
-        Err(refusal) => Err(RefusedAt { refusal, place }),
+        Err(refusal) => {
+            let fault = fault(answer.failing, answer.bytes);
+            Err(RefusedAt { refusal, reading: Reading::Value, place, fault })
+        }
     }
 }
 
@@ -248,7 +273,9 @@ pub fn skip_field(
     let kind = wire_type as u64;
     let answer = unsafe { ffi::capgauze_skip_field(s.as_ptr(), s.len(), at, end, kind) };
     let place = answer.place as usize;
-    accepted(answer.number).map(|()| place).map_err(|refusal| RefusedAt { refusal, place })
+    let fault = fault(answer.failing, answer.bytes);
+    let refused = |refusal| RefusedAt { refusal, reading: Reading::Skipped, place, fault };
+    accepted(answer.number).map(|()| place).map_err(refused)
 }
 
 /// One step of a message, from a field's first byte with the tag before it: a field, or `None` at the end. The place
@@ -274,7 +301,10 @@ pub fn step_at(
             let value = value(answer.kind, answer.value, answer.length);
             Ok(Some(Decoded { value: Field { tag, value }, next: place }))
         }
-        Err(refusal) => Err(RefusedAfter { refusal, place, last: tag }),
+        Err(refusal) => {
+            let fault = fault(answer.failing, answer.bytes);
+            Err(RefusedAfter { refusal, reading: Reading::Field, place, last: tag, fault })
+        }
     }
 }
 

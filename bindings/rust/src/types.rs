@@ -219,8 +219,57 @@ impl fmt::Display for Refusal {
 
 impl core::error::Error for Refusal {}
 
+/// Where the read that failed began, and how many bytes of a varint it looked at: 0 where it was no varint's. Both are 0 with
+/// refusals that are not met in the bytes (TooLong, NoRoom, BadCap).
+#[derive(Clone, Copy, Debug, Default, PartialEq, Eq, Hash)]
+pub struct Fault {
+    pub place: usize,
+    pub bytes: usize,
+}
+
+/// What a reader of one part was reading.
+#[derive(Clone, Copy, Debug, PartialEq, Eq, Hash)]
+pub enum Reading {
+    Varint,
+    Key,
+    Value,
+    /// A value that is passed over, with the fields of its tag behind it.
+    Skipped,
+    Field,
+}
+
+impl Reading {
+    fn name(self) -> &'static str {
+        match self {
+            Reading::Varint => "the varint",
+            Reading::Key => "the key",
+            Reading::Value => "the value",
+            Reading::Skipped => "what is skipped",
+            Reading::Field => "the field",
+        }
+    }
+}
+
+/// A reader's refusal in one sentence.
+fn tell(f: &mut fmt::Formatter, refusal: Refusal, what: &str, place: usize, fault: Fault) -> fmt::Result {
+    let why = match refusal {
+        Refusal::Truncated => "ends too soon",
+        Refusal::InvalidVarint => "has a varint of 2^64 or more",
+        Refusal::TagOverflowed => "has a tag above 4,294,967,295",
+        Refusal::TooLong => return write!(f, "{refusal}: the slice has more than {} bytes", crate::LIMIT),
+        Refusal::BadCap => return write!(f, "{refusal}: a place, a start or an end is above the slice's length"),
+        _ => return write!(f, "{refusal}"),
+    };
+    write!(f, "{refusal}: {what} at {place} {why}; the failing read began at {}", fault.place)?;
+    match fault.bytes {
+        0 => Ok(()),
+        1 => write!(f, " and looked at 1 byte of a varint"),
+        n => write!(f, " and looked at {n} bytes of a varint"),
+    }
+}
+
 macro_rules! refusals {
-    ($($(#[$doc:meta])* $name:ident { $($word:ident: $kind:ty),* })*) => { $(
+    ($($(#[$doc:meta])* $name:ident { $($word:ident: $kind:ty),* } $tell:expr;)*) => { $(
         $(#[$doc])*
         #[derive(Clone, Copy, Debug, PartialEq, Eq, Hash)]
         pub struct $name {
@@ -230,9 +279,8 @@ macro_rules! refusals {
 
         impl fmt::Display for $name {
             fn fmt(&self, f: &mut fmt::Formatter) -> fmt::Result {
-                write!(f, "{}", self.refusal)?;
-                $(write!(f, ", {} {}", stringify!($word), self.$word)?;)*
-                Ok(())
+                let tell: fn(&$name, &mut fmt::Formatter) -> fmt::Result = $tell;
+                tell(self, f)
             }
         }
 
@@ -241,18 +289,41 @@ macro_rules! refusals {
 }
 
 refusals! {
-    /// A reader of one part was refused; the place is the one that it was given.
-    RefusedAt { place: usize }
+    /// A reader of one part was refused: what it was reading, and the place that it was given.
+    ///
+    /// ```
+    /// let refused = capgauze::decode_varint(&[0x80], 0).unwrap_err();
+    /// let said = "Truncated (1): the varint at 0 ends too soon; the failing read began at 0 and looked at 1 byte of a varint";
+    /// assert_eq!(refused.to_string(), said);
+    /// ```
+    RefusedAt { reading: Reading, place: usize, fault: Fault }
+        |r, f| tell(f, r.refusal, r.reading.name(), r.place, r.fault);
     /// A reader that takes a last tag was refused; place and last tag are those that it was given.
-    RefusedAfter { place: usize, last: u32 }
+    RefusedAfter { reading: Reading, place: usize, last: u32, fault: Fault }
+        |r, f| tell(f, r.refusal, r.reading.name(), r.place, r.fault);
     /// A message reader was refused. The place is the first byte of the field being read, or of the last field read, if
     /// that one passed the end (the start, if no field was read). With NoRoom the count is the number of fields that need
     /// room; all else is 0.
-    RefusedRead { place: usize, count: usize }
+    ///
+    /// ```
+    /// let refused = capgauze::read_message(&[0x04, 0x07, 0x00], 0, 3, &mut [0; 8]).unwrap_err();
+    /// let said = "Truncated (1): the message's field at 2 ends too soon; the failing read began at 3";
+    /// assert_eq!(refused.to_string(), said);
+    /// ```
+    RefusedRead { place: usize, count: usize, fault: Fault }
+        |r, f| match r.refusal {
+            Refusal::NoRoom => write!(f, "{}: the table has no room for {} fields", r.refusal, r.count),
+            _ => tell(f, r.refusal, "the message's field", r.place, r.fault),
+        };
     /// Writing was refused: at the record's index, or the room, where the count is above it; else 0. With NoRoom the length
     /// that is needed; else 0.
     RefusedWrite { index: usize, needed: usize }
+        |r, f| match r.refusal {
+            Refusal::NoRoom => write!(f, "{}: the buffer is too short for {} bytes", r.refusal, r.needed),
+            _ => write!(f, "{}, index {}", r.refusal, r.index),
+        };
     /// An insertion was refused: at a record's index, the room where the count is above it, the count where the new record
     /// is not good; else 0.
     RefusedInsert { index: usize }
+        |r, f| write!(f, "{}, index {}", r.refusal, r.index);
 }

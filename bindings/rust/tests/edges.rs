@@ -6,6 +6,9 @@ const HUGE: [usize; 4] = [100, 1 << 32, usize::MAX / 4 + 1, usize::MAX];
 const TYPES: [WireType; 4] =
     [WireType::Varint, WireType::LengthDelimited, WireType::ThirtyTwoBit, WireType::SixtyFourBit];
 
+/// The fault of a refusal that is not met in the bytes, or that is met at place 0 by looking at none.
+const NOWHERE: Fault = Fault { place: 0, bytes: 0 };
+
 fn filled<T: Copy>(fill: T, len: usize) -> Vec<T> {
     vec![fill; len]
 }
@@ -14,15 +17,16 @@ fn filled<T: Copy>(fill: T, len: usize) -> Vec<T> {
 fn empty_slices() {
     let truncated = Refusal::Truncated;
     assert_eq!(read_message(&[], 0, 0, &mut []), Ok(Read { place: 0, count: 0 }));
-    assert_eq!(decode_varint(&[], 0), Err(RefusedAt { refusal: truncated, place: 0 }));
-    assert_eq!(decode_varint_capped(&[], 0, 0), Err(RefusedAt { refusal: truncated, place: 0 }));
-    let after = RefusedAfter { refusal: truncated, place: 0, last: 9 };
+    let (place, fault) = (0, NOWHERE);
+    let refused = |reading| RefusedAt { refusal: truncated, reading, place, fault };
+    assert_eq!(decode_varint(&[], 0), Err(refused(Reading::Varint)));
+    assert_eq!(decode_varint_capped(&[], 0, 0), Err(refused(Reading::Varint)));
+    let after = RefusedAfter { refusal: truncated, reading: Reading::Key, place, last: 9, fault };
     assert_eq!(decode_key(&[], 0, 0, 9), Err(after));
     assert_eq!(step_at(&[], 0, 0, 9), Ok(None));
     for wire_type in TYPES {
-        let refused = RefusedAt { refusal: truncated, place: 0 };
-        assert_eq!(decode_value(&[], 0, 0, wire_type), Err(refused));
-        assert_eq!(skip_field(&[], 0, 0, wire_type), Err(refused));
+        assert_eq!(decode_value(&[], 0, 0, wire_type), Err(refused(Reading::Value)));
+        assert_eq!(skip_field(&[], 0, 0, wire_type), Err(refused(Reading::Skipped)));
         assert_eq!(encode_key(0, 0, wire_type, &mut []), Err(Refusal::NoRoom));
         assert_eq!(prepend_key(1, 0, wire_type, &mut []), Err(Refusal::OutOfOrder));
     }
@@ -58,7 +62,9 @@ fn tables_of_every_small_size() {
                 assert_eq!(table[..4 * fields], RECORDS[..4 * fields]);
                 assert_eq!(table[4 * fields..], filled(77, words - 4 * fields));
             } else {
-                let refused = RefusedRead { refusal: Refusal::NoRoom, place: 0, count: fields };
+                let (place, fault) = (0, NOWHERE);
+                let refused =
+                    RefusedRead { refusal: Refusal::NoRoom, place, count: fields, fault };
                 assert_eq!(answer, Err(refused));
                 assert_eq!(table, filled(77, words));
             }
@@ -127,20 +133,21 @@ fn places_past_the_slice() {
         {
             let refusal = Refusal::BadCap;
             let mut table = filled(77, 9);
-            let refused = RefusedRead { refusal, place: 0, count: 0 };
+            let fault = NOWHERE;
+            let refused = RefusedRead { refusal, place: 0, count: 0, fault };
             assert_eq!(read_message(s, at, end, &mut table), Err(refused));
             assert_eq!(table, filled(77, 9));
-            let refused = RefusedAt { refusal, place: at };
-            assert_eq!(decode_varint_capped(s, at, end), Err(refused));
+            let refused = |reading| RefusedAt { refusal, reading, place: at, fault };
+            assert_eq!(decode_varint_capped(s, at, end), Err(refused(Reading::Varint)));
             if at > len {
-                assert_eq!(decode_varint(s, at), Err(refused));
+                assert_eq!(decode_varint(s, at), Err(refused(Reading::Varint)));
             }
-            let after = RefusedAfter { refusal, place: at, last: 5 };
-            assert_eq!(decode_key(s, at, end, 5), Err(after));
-            assert_eq!(step_at(s, at, end, 5), Err(after));
+            let after = |reading| RefusedAfter { refusal, reading, place: at, last: 5, fault };
+            assert_eq!(decode_key(s, at, end, 5), Err(after(Reading::Key)));
+            assert_eq!(step_at(s, at, end, 5), Err(after(Reading::Field)));
             for wire_type in TYPES {
-                assert_eq!(decode_value(s, at, end, wire_type), Err(refused));
-                assert_eq!(skip_field(s, at, end, wire_type), Err(refused));
+                assert_eq!(decode_value(s, at, end, wire_type), Err(refused(Reading::Value)));
+                assert_eq!(skip_field(s, at, end, wire_type), Err(refused(Reading::Skipped)));
             }
         }
     }
@@ -158,16 +165,21 @@ fn the_limit() {
     assert_eq!(written, Ok(Written { start: 1, length: LIMIT }));
     assert!(buf[0] == 0xA5 && buf[1..] == message);
     let short = read_message(&message, 0, LIMIT, &mut table[..4 * FIELDS - 1]);
-    assert_eq!(short, Err(RefusedRead { refusal: Refusal::NoRoom, place: 0, count: FIELDS }));
+    let (refusal, fault) = (Refusal::NoRoom, NOWHERE);
+    assert_eq!(short, Err(RefusedRead { refusal, place: 0, count: FIELDS, fault }));
     assert_eq!(pick_at(&message, 0, FIELDS - 1), Ok((FIELDS, Some(Value::Varint(128)))));
     assert_eq!(fields(&message).filter(Result::is_ok).count(), FIELDS);
 
     message.push(0x00);
     let refusal = Refusal::TooLong;
     let before = table.clone();
-    let refused = RefusedRead { refusal, place: 0, count: 0 };
+    let (reading, fault) = (Reading::Varint, NOWHERE);
+    let refused = RefusedRead { refusal, place: 0, count: 0, fault };
     assert_eq!(read_message(&message, 0, 0, &mut table), Err(refused));
-    assert_eq!(decode_varint(&message, 5), Err(RefusedAt { refusal, place: 5 }));
+    assert_eq!(
+        decode_varint(&message, 5),
+        Err(RefusedAt { refusal, reading, place: 5, fault })
+    );
     assert_eq!(pick(&message, 0), Err(refusal));
     assert_eq!(pick_early(&message, 0), Err(refusal));
     let refused = RefusedWrite { refusal, index: 0, needed: 0 };
@@ -182,7 +194,7 @@ fn the_limit() {
     assert_eq!((part.as_ptr(), part.len()), (message.as_ptr(), message.len())); // a part, not a copy
     assert_eq!(
         read_payload(&message, whole, &mut table),
-        Err(RefusedRead { refusal, place: 0, count: 0 })
+        Err(RefusedRead { refusal, place: 0, count: 0, fault })
     );
 
     // 1 byte of key, 3 of length: a payload of 1,048,571 bytes is the longest
@@ -384,4 +396,33 @@ fn an_index_that_owns_its_words() {
     assert_eq!(tags.tags(), FIELDS);
     assert_eq!(tags.to_line().len(), 2 + 20 * FIELDS);
     assert!(Index::from_line(&tags.to_line(), LIMIT) == Ok(tags));
+}
+
+/// A damaged message of each kind, and its refusal in a sentence (rules F1 to F5 of docs/FORMAT.md).
+#[test]
+fn refusals_in_a_sentence() {
+    let told = |s: &[u8], end| read_message(s, 0, end, &mut [0; 8]).unwrap_err().to_string();
+    let begins = |kind, place, why, failing| {
+        format!("{kind}: the message's field at {place} {why}; the failing read began at {failing}")
+    };
+    let truncated = |place, failing| begins("Truncated (1)", place, "ends too soon", failing);
+    assert_eq!(told(&[0x04], 1), truncated(0, 1)); // a key, and no value
+    assert_eq!(told(&[0x00, 0x07, 0x00, 0x80], 4), truncated(2, 3) + " and looked at 1 byte of a varint");
+    assert_eq!(told(&[0x00, 0x07, 0x80, 0x80], 4), truncated(2, 2) + " and looked at 2 bytes of a varint");
+    assert_eq!(told(&[0x01, 0x03, 0xAA], 3), truncated(0, 1)); // a payload that is too long: its length
+    assert_eq!(told(&[0x02, 0x01, 0x02], 3), truncated(0, 1)); // four bytes that are not there
+    assert_eq!(told(&[0x00, 0x80, 0x00], 2), truncated(0, 3)); // the end was passed: the place reached
+    let mut invalid = vec![0x00];
+    invalid.extend([0xFF; 9]);
+    let why = "has a varint of 2^64 or more";
+    let said = begins("InvalidVarint (2)", 0, why, 1) + " and looked at 9 bytes of a varint";
+    assert_eq!(told(&invalid, 10), said);
+    let why = "has a tag above 4,294,967,295";
+    assert_eq!(told(&[0x80, 0xFF, 0xFE, 0xFE, 0x3E, 0x00], 6), begins("TagOverflowed (3)", 0, why, 0));
+    assert_eq!(
+        told(&[], 1),
+        "BadCap (8): a place, a start or an end is above the slice's length"
+    );
+    let short = read_message(&[0x00, 0x07], 0, 2, &mut []).unwrap_err();
+    assert_eq!(short.to_string(), "NoRoom (5): the table has no room for 1 fields");
 }

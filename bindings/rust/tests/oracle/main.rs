@@ -17,7 +17,10 @@ use capgauze::*;
 use chance::Chance;
 use std::sync::atomic::{AtomicU64, Ordering};
 use std::time::{Instant, SystemTime, UNIX_EPOCH};
-use told::{expected_read, good, limited, named, tested, value};
+use told::{
+    expected_read, good, key_fault, limited, looked, named, skip_fault, step_fault, tested, value,
+    value_fault,
+};
 
 const FILL: u64 = 0xA5A5_A5A5_A5A5_A5A5;
 const TYPES: [WireType; 4] =
@@ -210,23 +213,38 @@ impl Against {
     fn parts(&mut self, s: &[u8], at: usize, end: usize) {
         let both = &[at, end];
         let decoded = |(value, next)| Decoded { value, next };
-        let refused = |refusal| RefusedAt { refusal, place: at };
-        let theirs = limited(s, &[at], || Blob::varint(s, at)).map(decoded).map_err(refused);
+        // a refusal that is not met in the bytes has no fault
+        let met = |refusal, fault: &dyn Fn() -> Fault| match refusal {
+            Refusal::TooLong | Refusal::BadCap => Fault::default(),
+            _ => fault(),
+        };
+        let varint = |refusal| {
+            let fault = met(refusal, &|| looked(s, at));
+            RefusedAt { refusal, reading: Reading::Varint, place: at, fault }
+        };
+        let theirs = limited(s, &[at], || Blob::varint(s, at)).map(decoded).map_err(varint);
         same!(self, decode_varint(s, at), theirs, s, at);
         let theirs =
-            limited(s, both, || Blob::capped_varint(s, at, end)).map(decoded).map_err(refused);
+            limited(s, both, || Blob::capped_varint(s, at, end)).map(decoded).map_err(varint);
         same!(self, decode_varint_capped(s, at, end), theirs, s, at, end);
 
         let last = self.chance.rise();
-        let after = |refusal| RefusedAfter { refusal, place: at, last };
-        let theirs = limited(s, both, || Blob::key(s, at, end, last)).map_err(after);
+        let key = |refusal| {
+            let fault = met(refusal, &|| key_fault(s, at, refusal));
+            RefusedAfter { refusal, reading: Reading::Key, place: at, last, fault }
+        };
+        let theirs = limited(s, both, || Blob::key(s, at, end, last)).map_err(key);
         let theirs = theirs.map(|(tag, kind, next)| {
             let wire_type = TYPES[kind as usize];
             Decoded { value: Key { tag, wire_type }, next }
         });
         same!(self, decode_key(s, at, end, last), theirs, s, at, end, last);
 
-        let theirs = limited(s, both, || Blob::step(s, at, end, last)).map_err(after);
+        let step = |refusal| {
+            let fault = met(refusal, &|| step_fault(s, at, end, last));
+            RefusedAfter { refusal, reading: Reading::Field, place: at, last, fault }
+        };
+        let theirs = limited(s, both, || Blob::step(s, at, end, last)).map_err(step);
         let theirs = theirs.map(|found| {
             found.map(|([tag, kind, number, length], next)| {
                 let value = value(kind, number, length);
@@ -236,12 +254,20 @@ impl Against {
         same!(self, step_at(s, at, end, last), theirs, s, at, end, last);
 
         for (kind, wire_type) in TYPES.into_iter().enumerate() {
+            let refused = |refusal| {
+                let fault = met(refusal, &|| value_fault(s, at, kind as u8));
+                RefusedAt { refusal, reading: Reading::Value, place: at, fault }
+            };
             let theirs = limited(s, both, || Blob::value(s, at, end, kind as u8)).map_err(refused);
             let theirs = theirs.map(|([kind, number, length], next)| Decoded {
                 value: value(kind, number, length),
                 next,
             });
             same!(self, decode_value(s, at, end, wire_type), theirs, s, at, end, kind);
+            let refused = |refusal| {
+                let fault = met(refusal, &|| skip_fault(s, at, end, kind as u8));
+                RefusedAt { refusal, reading: Reading::Skipped, place: at, fault }
+            };
             let theirs = limited(s, both, || Blob::skip(s, at, end, kind as u8)).map_err(refused);
             same!(self, skip_field(s, at, end, wire_type), theirs, s, at, end, kind);
         }

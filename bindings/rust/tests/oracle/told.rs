@@ -34,15 +34,77 @@ pub fn expected_read(
     end: usize,
     room: usize,
 ) -> (Result<Read, RefusedRead>, Vec<[u64; 4]>) {
-    let refused = |refusal, place, count| (Err(RefusedRead { refusal, place, count }), Vec::new());
+    let refused = |refusal, place, count, fault| {
+        (Err(RefusedRead { refusal, place, count, fault }), Vec::new())
+    };
     if let Err(refusal) = limited(s, &[start, end], || Ok(())) {
-        return refused(refusal, 0, 0);
+        return refused(refusal, 0, 0, Fault::default());
     }
     match Blob::read(s, start, end) {
-        Err((kind, place)) => refused(named(kind), place, 0),
-        Ok((records, _)) if records.len() > room => refused(Refusal::NoRoom, 0, records.len()),
+        Err((kind, place)) => refused(named(kind), place, 0, message_fault(s, start, end)),
+        Ok((records, _)) if records.len() > room => {
+            refused(Refusal::NoRoom, 0, records.len(), Fault::default())
+        }
         Ok((records, place)) => (Ok(Read { place, count: records.len() }), records),
     }
+}
+
+// ---- Where a failing read began, and how many bytes of a varint it looked at (rules F1 to F5) ----
+
+/// Of a refused varint.
+pub fn looked(s: &[u8], at: usize) -> Fault {
+    Fault { place: at, bytes: 9.min(s.len() - at) }
+}
+
+/// Of a refused key.
+pub fn key_fault(s: &[u8], at: usize, refusal: Refusal) -> Fault {
+    match refusal {
+        Refusal::TagOverflowed => Fault { place: at, bytes: 0 },
+        _ => looked(s, at),
+    }
+}
+
+/// Of a refused value: that of its varint, or of the varint of its length; else the value's place alone.
+pub fn value_fault(s: &[u8], at: usize, kind: u8) -> Fault {
+    match kind {
+        0 | 1 if Blob::varint(s, at).is_err() => looked(s, at),
+        _ => Fault { place: at, bytes: 0 },
+    }
+}
+
+/// Of a refused field.
+pub fn field_fault(s: &[u8], at: usize, end: usize, last: u32) -> Fault {
+    match Blob::key(s, at, end, last) {
+        Err(kind) => key_fault(s, at, named(kind)),
+        Ok((_, kind, behind)) => value_fault(s, behind, kind),
+    }
+}
+
+/// Of a refused step.
+pub fn step_fault(s: &[u8], at: usize, end: usize, last: u32) -> Fault {
+    if at > end { Fault { place: at, bytes: 0 } } else { field_fault(s, at, end, last) }
+}
+
+/// Of refused skipping: the value that failed may be a later one. A value alone is skipped under the end 0.
+pub fn skip_fault(s: &[u8], at: usize, end: usize, kind: u8) -> Fault {
+    match Blob::skip(s, at, 0, kind) {
+        Ok(behind) if behind < end && behind < s.len() && s[behind] < 4 => {
+            skip_fault(s, behind + 1, end, s[behind])
+        }
+        _ => value_fault(s, at, kind),
+    }
+}
+
+/// Of a refused message, field by field from its start; the loop's top names the place reached.
+fn message_fault(s: &[u8], start: usize, end: usize) -> Fault {
+    let (mut at, mut last) = (start, 0);
+    while at < end {
+        match Blob::step(s, at, end, last) {
+            Ok(Some(([tag, ..], next))) => (at, last) = (next, tag as u32),
+            _ => return field_fault(s, at, end, last),
+        }
+    }
+    Fault { place: at, bytes: 0 }
 }
 
 pub fn good(source: &[u8], [tag, kind, value, length]: [u64; 4]) -> bool {
