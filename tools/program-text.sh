@@ -10,7 +10,9 @@ what_dump() {
 Prints the fields of each frame, or why it has none. A line is a frame in hex.
   frame F tag type value   type: 0 a number, 1 bytes, 2 four bytes, 3 eight
   frame OK fields bytes    accepted
-  frame NO number place    refused, at this byte
+  frame NO number place failing bytes
+                           refused: the key's place, where the read that failed
+                           began, and the bytes of a varint it looked at
   frame HEX, frame LONG    not hexadecimal; more than 4096 characters
 Example:
   $ echo 0401 | dump
