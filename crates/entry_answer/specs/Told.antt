@@ -32,6 +32,12 @@ use Rattle.entry_answer.specs.declared.Indexed.{Indexed}
 use Rattle.entry_answer.specs.declared.Indexed.the-variants as indexed
 use Rattle.entry_answer.specs.declared.Several as several
 use Rattle.entry_answer.specs.declared.Several.the-variants as severalAs
+use Rattle.entry_answer.specs.declared.Supplier.{Supplier}
+use Rattle.entry_answer.specs.declared.Supplier.the-variants as supplier
+use Rattle.entry_answer.specs.declared.RunCount.{RunCount}
+use Rattle.entry_answer.specs.declared.RunCount.the-variants as runCount
+use Rattle.entry_answer.specs.declared.RunValue.{RunValue}
+use Rattle.entry_answer.specs.declared.RunValue.the-variants as runValue
 
 -- Rule R8: a length or a count
 pub record Number : Type 0 where
@@ -203,3 +209,25 @@ writtenTold (written.Refused r p n) = record { number = numberOf r; start = p; l
 abbrev pub insertedTold : Inserted → Number
 insertedTold (inserted.Count n) = record { number = 0; value = n }
 insertedTold (inserted.Refused r n) = record { number = numberOf r; value = n }
+
+-- Rule G4: which message supplies a tag: 1 the original, 2 the correction, 0 none
+pub record Supplied : Type 0 where
+  pub number : ℕ
+  pub supplier : ℕ
+
+abbrev pub supplierTold : Supplier → Supplied
+supplierTold supplier.Original = record { number = 0; supplier = 1 }
+supplierTold supplier.Correction = record { number = 0; supplier = 2 }
+supplierTold supplier.Absent = record { number = 0; supplier = 0 }
+supplierTold (supplier.Refused r) = record { number = numberOf r; supplier = 0 }
+
+-- Rules U3 and U4: the number of values of a run
+abbrev pub runCountTold : RunCount → Number
+runCountTold (runCount.Values n) = record { number = 0; value = n }
+runCountTold (runCount.Refused r) = record { number = numberOf r; value = 0 }
+
+-- Rule U3: the value at a number of a run, as a field that was looked for
+abbrev pub runValueTold : RunValue → Pick
+runValueTold (runValue.Found v) = record { number = 0; found = 1; kind = kindWord v; value = valueWord v; length = lengthWord v }
+runValueTold runValue.Absent = record { number = 0; found = 0; kind = 0; value = 0; length = 0 }
+runValueTold (runValue.Refused r) = record { number = numberOf r; found = 0; kind = 0; value = 0; length = 0 }

@@ -98,3 +98,24 @@ pub fn gate(len: usize, at: usize, end: usize) -> Gated
     }
     Gated::Open
 }
+
+// Which message supplies a tag, the original or its correction, or that none does, or why none is answered.
+pub enum Supplier {
+    Original,
+    Correction,
+    Absent,
+    Refused(Refusal),
+}
+
+// How many values a run has, or why there is none.
+pub enum RunCount {
+    Values(usize),
+    Refused(Refusal),
+}
+
+// The value of a run at a number, or that there is none there; or why the run is none.
+pub enum RunValue {
+    Found(Value),
+    Absent,
+    Refused(Refusal),
+}

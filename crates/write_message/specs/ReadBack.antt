@@ -29,10 +29,10 @@ use Rattle.wire.specs.declared.ValueFound.the-variants as valueFound
 
 -- ---- a value that was read is one that a good record has
 
-abbrev Fits : ℕ → Value → Type 0
+abbrev pub Fits : ℕ → Value → Type 0
 Fits n v = goodValue n (kindWord v) (valueWord v) (lengthWord v) ≡ true
 
-value-fits : (s : List ℕ) → Bytes s → (e p : ℕ) (w : WireType) (v : Value) (q : ℕ) → valueAt s e p w ≡ valueFound.Got v q → Fits (length s) v
+pub value-fits : (s : List ℕ) → Bytes s → (e p : ℕ) (w : WireType) (v : Value) (q : ℕ) → valueAt s e p w ≡ valueFound.Got v q → Fits (length s) v
 unfolding goodValue
 value-fits s b e p wireType.Varint v q h = rw (number-got (cappedAt s e p) v q h .2) refl
 value-fits s b e p wireType.LengthDelimited v q h =

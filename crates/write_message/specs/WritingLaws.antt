@@ -79,7 +79,7 @@ checked-why most s t c why i e z = go (leb (length s) most) refl (leb c (room t)
 no-writes : {A : Type 0} {r : Refusal} {i : ℕ} {bs : List ℕ} → Refuses r i ≡ Writes bs → A
 no-writes e = let z : _≡_ {A = ℕ} 0 1 = cc in absurd (omega arith)
 
-passed-writes : (most : ℕ) (m : List ℕ) (v : Verdict) (bs : List ℕ) → passed most m v ≡ Writes bs → (v ≡ AllFine) × (bs ≡ m) × (length m ≤ most)
+pub passed-writes : (most : ℕ) (m : List ℕ) (v : Verdict) (bs : List ℕ) → passed most m v ≡ Writes bs → (v ≡ AllFine) × (bs ≡ m) × (length m ≤ most)
 passed-writes most m AllFine bs e = go (leb (length m) most) refl
   where
     go : (b : Bool) → leb (length m) most ≡ b → (AllFine ≡ AllFine) × (bs ≡ m) × (length m ≤ most)

@@ -1,0 +1,4 @@
+pub mod Supplying
+pub mod SupplyLaws
+pub mod Meaning
+pub mod Cases

@@ -1,0 +1,4 @@
+pub mod Packed
+pub mod Theorem
+pub mod Runs
+pub mod Cases

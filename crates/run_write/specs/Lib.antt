@@ -1,0 +1,4 @@
+pub mod RunPlan
+pub mod RunLaws
+pub mod Back
+pub mod Cases

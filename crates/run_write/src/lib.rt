@@ -1,0 +1,164 @@
+// Packed runs, written: records tested and measured, then their values put one behind the other, without keys.
+// From src/encoding/opaque.rs (`packed`) of bilrost.
+ghost use mathlib.Core.Path.{_≡_};
+ghost use Prim.Native.Nat.{_+_, _-_, _≤_};
+ghost use lib.ListN.{length};
+ghost use Rattle.place.specs.Spans.{Spans};
+ghost use Rattle.wire.specs.Limits.{messageLimit};
+ghost use Rattle.wire.specs.Varint.{encode};
+ghost use Rattle.write_record.specs.Records.{valueBytes};
+ghost use Rattle.write_record.specs.RecordLaws.{Sound};
+ghost use Rattle.write_message.specs.Writing.{fitted, spent, Writing};
+ghost use Rattle.run_write.specs.RunPlan.{runWeigh, runChecked, runBytes, runPlan, writeRun};
+ghost use Rattle.run_write.specs.RunLaws.{Ready};
+use wire::MESSAGE_LIMIT;
+use wire::RECORD_WORDS;
+use wire::Record;
+use wire::Refusal;
+use wire::Weighed;
+use wire::Weight;
+use wire::WireType;
+use wire::Written;
+
+// ---- measured
+
+// What is said of one record, over a source of size bytes: its value's bytes, or that it is none of the run. Behind tag 0 a key of tag 0 is one byte.
+fn weigh_one(size: u32, kind: u64, r: Record) -> Weight
+    ensures { λ w. ⌜ w ≡ runWeigh size kind r ⌝ }
+{
+    if r.tag != 0 {
+        return Weight::Bad(Refusal::BadRecord);
+    }
+    if r.kind != kind {
+        return Weight::Bad(Refusal::BadRecord);
+    }
+    match write_record::weigh_record(size, 0, r) {
+        Weight::Bad(why) => Weight::Bad(why),
+        Weight::Bytes(n) => {
+            let bytes = n - 1;
+            Weight::Bytes(bytes)
+        }
+    }
+}
+
+// What is left of a budget.
+fn spend(left: usize, n: usize) -> usize
+    ensures { λ r. ⌜ r ≡ left - n ⌝ }
+{
+    if n < left {
+        return left - n;
+    }
+    0
+}
+
+// All tests but that of the output, and what the values leave of a budget of one byte more than the limit. It falls to 0 and stays there, so that nothing
+// wraps, however often payloads overlap.
+fn weigh(source: &[u8], table: &[u64], count: usize, kind: u64) -> Weighed
+    ensures { λ r. ⌜
+        r
+        ≡ spent (messageLimit + 1) (length (runBytes (now (source .entry)) (now (table .entry)) count))
+        (runChecked messageLimit (now (source .entry)) (now (table .entry)) count kind)
+        ⌝ }
+{
+    if MESSAGE_LIMIT < source.len() {
+        return Weighed::First(Refusal::TooLong, 0);
+    }
+    let records = table.len() / RECORD_WORDS;
+    if records < count {
+        return Weighed::First(Refusal::BadRecord, records);
+    }
+    let size = source.len() as u32;
+    let mut left = MESSAGE_LIMIT + 1;
+    let mut i: usize = 0;
+    while i < count {
+        let r = write_record::record_at(table, i);
+        match weigh_one(size, kind, r) {
+            Weight::Bad(why) => return Weighed::First(why, i),
+            Weight::Bytes(n) => left = spend(left, n),
+        }
+        i += 1;
+    }
+    Weighed::Left(left)
+}
+
+// How long the run is, for a buffer of so many bytes. One that is too short is told the length that is needed.
+fn fit(source: &[u8], table: &[u64], count: usize, kind: u64, bytes: usize) -> Written
+    ensures { λ r. ⌜ r ≡ fitted bytes (runPlan messageLimit (now (source .entry)) (now (table .entry)) count kind) ⌝ }
+{
+    match weigh(source, table, count, kind) {
+        Weighed::First(why, i) => Written::Refused(why, i, 0),
+        Weighed::Left(left) => {
+            if left == 0 {
+                return Written::Refused(Refusal::TooLong, 0, 0);
+            }
+            let n = MESSAGE_LIMIT + 1 - left;
+            if bytes < n {
+                return Written::Refused(Refusal::NoRoom, 0, n);
+            }
+            Written::At(0, n)
+        }
+    }
+}
+
+// ---- put: each function takes the place where its bytes start, and answers the one behind them
+
+fn put_number(buf: &mut [u8], at: usize, v: u64) -> usize
+    requires { ⌜ at + length (encode v) ≤ length (now buf) ⌝ }
+    ensures { λ n. ⌜ Spans (now (buf .entry)) at n (encode v) (now (buf .exit)) ⌝ }
+{
+    if v < 128 {
+        buf[at] = v as u8;
+        return at + 1;
+    }
+    varint_write::put_varint(buf, at, v)
+}
+
+fn put_value(buf: &mut [u8], at: usize, source: &[u8], kind: u64, r: Record) -> usize
+    requires { ⌜ Sound (length (now source)) r × (r .kind ≡ kind) × (at + length (valueBytes (now source) r) ≤ length (now buf)) ⌝ }
+    ensures { λ n. ⌜ Spans (now (buf .entry)) at n (valueBytes (now (source .entry)) r) (now (buf .exit)) ⌝ }
+{
+    if kind < 2 {
+        if kind == 0 {
+            return put_number(buf, at, r.value);
+        }
+        let next = put_number(buf, at, r.length);
+        return place::put_part(buf, next, source, r.value as usize, r.length as usize);
+    }
+    if kind == 2 {
+        return place::put_fixed(buf, at, 4, r.value);
+    }
+    place::put_fixed(buf, at, 8, r.value)
+}
+
+fn put_all(buf: &mut [u8], source: &[u8], table: &[u64], count: usize, kind: u64) -> usize
+    requires { ⌜ Ready (now source) (now table) count kind × (length (runBytes (now source) (now table) count) ≤ length (now buf)) ⌝ }
+    ensures { λ n. ⌜ Spans (now (buf .entry)) 0 n (runBytes (now (source .entry)) (now (table .entry)) count) (now (buf .exit)) ⌝ }
+{
+    let records = &table[0..RECORD_WORDS * count];
+    let mut at: usize = 0;
+    let mut i: usize = 0;
+    while i < count {
+        let r = write_record::record_at(records, i);
+        at = put_value(buf, at, source, kind, r);
+        i += 1;
+    }
+    at
+}
+
+// The run of a table's first records, all of tag 0 and of one wire type, over the source that holds their payloads, at the buffer's front. A refusal leaves
+// the buffer as it was.
+pub fn write_run(
+    source: &[u8],
+    table: &[u64],
+    count: usize,
+    wire: WireType,
+    buf: &mut [u8],
+) -> Written
+    ensures { λ r. ⌜ record { answer = r; buf = now (buf .exit) } ≡ writeRun (now (source .entry)) (now (table .entry)) count wire (now (buf .entry)) ⌝ }
+{
+    let kind = field_key::wire_number(wire);
+    match fit(source, table, count, kind, buf.len()) {
+        Written::Refused(why, start, n) => Written::Refused(why, start, n),
+        Written::At(_, _) => Written::At(0, put_all(buf, source, table, count, kind)),
+    }
+}
