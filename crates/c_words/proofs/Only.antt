@@ -34,6 +34,10 @@ use Rattle.c_words.proofs.sounding_words.Kinds as sounding-words
 use Rattle.c_words.proofs.sounding_words.Reads as sounding-words-reads
 use Rattle.c_words.proofs.indexed_words.Kinds as indexed-words
 use Rattle.c_words.proofs.indexed_words.Reads as indexed-words-reads
+use Rattle.c_words.proofs.run_count_words.Kinds as run-count-words
+use Rattle.c_words.proofs.run_count_words.Reads as run-count-words-reads
+use Rattle.c_words.proofs.run_value_words.Kinds as run-value-words
+use Rattle.c_words.proofs.run_value_words.Reads as run-value-words-reads
 
 pub typed-of-one : One 0 typed-of.ps typed-of.r typed-of-reads.Post (λ κs r s. r)
 typed-of-one κs a x y s t p q = p ∙ sym q
@@ -82,3 +86,9 @@ sounding-words-one κs a x y s t p q = p ∙ sym q
 
 pub indexed-words-one : One 0 indexed-words.ps indexed-words.r indexed-words-reads.Post (λ κs r s. asNumber r)
 indexed-words-one κs a x y s t p q = p ∙ sym q
+
+pub run-count-words-one : One 0 run-count-words.ps run-count-words.r run-count-words-reads.Post (λ κs r s. asNumber r)
+run-count-words-one κs a x y s t p q = p ∙ sym q
+
+pub run-value-words-one : One 0 run-value-words.ps run-value-words.r run-value-words-reads.Post (λ κs r s. asPicked r)
+run-value-words-one κs a x y s t p q = p ∙ sym q

@@ -5,7 +5,7 @@ use mathlib.Core.Bool.{Bool, true, false}
 use mathlib.Core.List.{List}
 use native.Mathlib.Omega.{arith}
 use Rattle.entry_answer.specs.Told as told
-use Rattle.entry_answer.specs.Told.{putTold, readTold, writtenTold, insertedTold, indexedTold}
+use Rattle.entry_answer.specs.Told.{putTold, readTold, writtenTold, insertedTold, indexedTold, runCountTold}
 use Rattle.write_message.specs.Writing.{Writing}
 use Rattle.write_insertion.specs.Insertion.{Insertion}
 use Rattle.entry_answer.specs.Stores.{Stored}
@@ -17,6 +17,7 @@ use Rattle.wire.specs.declared.WireType.{WireType}
 use Rattle.wire.specs.declared.WireType.the-variants as wireType
 use Rattle.message_table.specs.Into.{Outcome}
 use Rattle.index.specs.Index as index
+use Rattle.run_read.specs.Runs as run
 use Rattle.message_payload.specs.declared.Span.{Span}
 use Rattle.sounding.specs.Told as soundings
 use Rattle.sounding.specs.Told.{soundingTold}
@@ -185,3 +186,31 @@ place-unknown at t f e = rw e
 pub place-known : (at : ℕ) (t : Typed) (f : WireType → told.Place) (w : WireType) → t ≡ Is w → placeTyped at t f ≡ f w
 unfolding placeTyped
 place-known at t f w e = rw e
+
+-- ---- runs
+
+abbrev pub runTold : run.Outcome → Lent told.Number
+runTold o = record { told = runCountTold (o .answer); lent = o .table }
+
+-- what is told of a wire type, or, where the number is none, what is told instead
+unfoldable pub typedAs : {A : Type 0} → A → Typed → (WireType → A) → A
+typedAs u (Is w) f = f w
+typedAs u Unknown f = u
+
+-- told instead: BadRecord, and all other words 0
+abbrev pub badNumber : told.Number
+badNumber = record { number = numberOf BadRecord; value = 0 }
+
+abbrev pub badPick : told.Pick
+badPick = record { number = numberOf BadRecord; found = 0; kind = 0; value = 0; length = 0 }
+
+abbrev pub badWrote : told.Wrote
+badWrote = record { number = numberOf BadRecord; start = 0; length = 0 }
+
+pub as-unknown : {A : Type 0} (u : A) (t : Typed) (f : WireType → A) → t ≡ Unknown → typedAs u t f ≡ u
+unfolding typedAs
+as-unknown u t f e = rw e
+
+pub as-known : {A : Type 0} (u : A) (t : Typed) (f : WireType → A) (w : WireType) → t ≡ Is w → typedAs u t f ≡ f w
+unfolding typedAs
+as-known u t f w e = rw e

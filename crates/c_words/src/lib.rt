@@ -3,6 +3,7 @@ ghost use mathlib.Core.Path.{_≡_};
 ghost use Rattle.wire.specs.Table.{kindWord, valueWord, lengthWord};
 ghost use Rattle.entry_answer.specs.Told.{putTold, varintTold, readTold, pickedTold, severalTold, earlyTold, keyLenTold, keyTold, valueTold};
 ghost use Rattle.entry_answer.specs.Told.{skippedTold, stepTold, writtenTold, insertedTold, indexedTold};
+ghost use Rattle.entry_answer.specs.Told.{runCountTold, runValueTold};
 ghost use Rattle.sounding.specs.Told.{soundingTold};
 ghost use Rattle.c_words.specs.Words.{asNumber, asVarint, asRead, asPicked, asSeveral, asEarly, asWritten, asKey, asValue, asPlace, asStep, asSounding};
 ghost use Rattle.c_words.specs.Words.{typedOf, foundWords, noneWords, uncountedOf};
@@ -11,6 +12,8 @@ use entry_answer::KeyLength;
 use entry_answer::KeyRead;
 use entry_answer::Picked;
 use entry_answer::Put;
+use entry_answer::RunCount;
+use entry_answer::RunValue;
 use entry_answer::Several;
 use entry_answer::Skipped;
 use entry_answer::Step;
@@ -522,5 +525,32 @@ pub fn sounding_words(a: Sounding) -> SoundingWords
             launch: 0,
             levels: 0,
         },
+    }
+}
+
+// The number of values of a run.
+pub fn run_count_words(x: RunCount) -> Number
+    ensures { λ r. ⌜ asNumber r ≡ runCountTold x ⌝ }
+{
+    match x {
+        RunCount::Values(n) => Number {
+            number: 0,
+            value: n as u64,
+        },
+        RunCount::Refused(r) => Number {
+            number: wire::number_of(r),
+            value: 0,
+        },
+    }
+}
+
+// The value of a run at a number.
+pub fn run_value_words(x: RunValue) -> PickWords
+    ensures { λ r. ⌜ asPicked r ≡ runValueTold x ⌝ }
+{
+    match x {
+        RunValue::Found(v) => uncounted(found_words(1, Field { tag: 0, value: v })),
+        RunValue::Absent => uncounted(none_words(0, 0)),
+        RunValue::Refused(r) => uncounted(none_words(wire::number_of(r), 0)),
     }
 }

@@ -7,6 +7,8 @@ pub use entry_answer::KeyRead;
 pub use entry_answer::More;
 pub use entry_answer::Picked;
 pub use entry_answer::Put;
+pub use entry_answer::RunCount;
+pub use entry_answer::RunValue;
 pub use entry_answer::Several;
 pub use entry_answer::Skipped;
 pub use entry_answer::Step;
@@ -85,3 +87,9 @@ pub use index_pick::pick_indexed;
 // ---- soundings
 pub use sounding::LEVEL_WORDS;
 pub use sounding::read_sounding;
+
+// ---- packed runs
+pub use run_read::read_run;
+pub use run_read::run_count;
+pub use run_read::run_value;
+pub use run_write::write_run;

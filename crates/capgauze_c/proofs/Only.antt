@@ -63,6 +63,14 @@ use Rattle.capgauze_c.proofs.capgauze_write_line.Kinds as write-line
 use Rattle.capgauze_c.proofs.capgauze_write_line.Reads as write-line-reads
 use Rattle.capgauze_c.proofs.capgauze_read_line.Kinds as read-line
 use Rattle.capgauze_c.proofs.capgauze_read_line.Reads as read-line-reads
+use Rattle.capgauze_c.proofs.capgauze_run_count.Kinds as run-count
+use Rattle.capgauze_c.proofs.capgauze_run_count.Reads as run-count-reads
+use Rattle.capgauze_c.proofs.capgauze_run_value.Kinds as run-value
+use Rattle.capgauze_c.proofs.capgauze_run_value.Reads as run-value-reads
+use Rattle.capgauze_c.proofs.capgauze_read_run.Kinds as read-run
+use Rattle.capgauze_c.proofs.capgauze_read_run.Reads as read-run-reads
+use Rattle.capgauze_c.proofs.capgauze_write_run.Kinds as write-run
+use Rattle.capgauze_c.proofs.capgauze_write_run.Reads as write-run-reads
 
 pub encoded-len-varint-one : One 0 encoded-len-varint.ps encoded-len-varint.r encoded-len-varint-reads.Post (λ κs r s. r)
 encoded-len-varint-one κs a x y s t p q = p ∙ sym q
@@ -162,3 +170,17 @@ write-line-one κs a x y s t p q = p ∙ sym q
 pub read-line-one : One 2 read-line.ps read-line.r read-line-reads.Post {S = Lent told.Number}
     (λ κs r s. record { told = asNumber r; lent = now (s .1 .1 .0) })
 read-line-one κs a x y s t p q = p ∙ sym q
+
+pub run-count-one : One 1 run-count.ps run-count.r run-count-reads.Post (λ κs r s. asNumber r)
+run-count-one κs a x y s t p q = p ∙ sym q
+
+pub run-value-one : One 1 run-value.ps run-value.r run-value-reads.Post (λ κs r s. asPicked r)
+run-value-one κs a x y s t p q = p ∙ sym q
+
+pub read-run-one : One 2 read-run.ps read-run.r read-run-reads.Post {S = Lent told.Number}
+    (λ κs r s. record { told = asNumber r; lent = now (s .1 .1 .0) })
+read-run-one κs a x y s t p q = p ∙ sym q
+
+pub write-run-one : One 3 write-run.ps write-run.r write-run-reads.Post {S = Lent told.Wrote}
+    (λ κs r s. record { told = asWritten r; lent = now (s .1 .1 .1 .1 .0) })
+write-run-one κs a x y s t p q = p ∙ sym q

@@ -17,12 +17,16 @@ ghost use Rattle.entry_message.specs.Messages.{readEntry, readPayload, pickEntr
 ghost use Rattle.index_line.specs.Line.{writeLine, readEither};
 ghost use Rattle.index_make.specs.Made.{makeIndex, indexFits};
 ghost use Rattle.index_pick.specs.Looked.{pickIndexed};
+ghost use Rattle.entry_answer.specs.Told.{runCountTold, runValueTold};
+ghost use Rattle.run_read.specs.Runs.{runCount, runValue, readRun};
+ghost use Rattle.run_write.specs.RunPlan.{writeRun};
 ghost use Rattle.sounding.specs.Told.{soundingTold};
 ghost use Rattle.sounding.specs.Words.{readSounding};
 ghost use Rattle.c_words.specs.Words.{Lent, asNumber, asVarint, asRead, asPicked, asSeveral, asEarly, asPart, asWritten, asKey, asValue, asPlace};
 ghost use Rattle.c_words.specs.Words.{asStep, asSounding};
 ghost use Rattle.c_words.specs.Words.{typedOf, keyStored, valueTyped, placeTyped, storedTold, outcomeTold, writingTold, insertionTold, levelsTold};
 ghost use Rattle.c_words.specs.Words.{indexTold, bitOf};
+ghost use Rattle.c_words.specs.Words.{runTold, typedAs, badNumber, badPick, badWrote};
 use c_words::KeyWords;
 use c_words::LookupWords;
 use c_words::Number;
@@ -40,8 +44,11 @@ use capgauze::Fault;
 use capgauze::Put;
 use capgauze::Record;
 use capgauze::Refusal;
+use capgauze::RunCount;
+use capgauze::RunValue;
 use capgauze::Skipped;
 use capgauze::ValueRead;
+use capgauze::Written;
 
 // ---- varints
 
@@ -381,4 +388,63 @@ pub extern "C" fn capgauze_read_sounding(s: &[u8], levels: &mut [u64]) -> Soundi
     ensures { λ r. ⌜ record { told = asSounding r; lent = now (levels .exit) } ≡ levelsTold (readSounding (now (s .entry)) (now (levels .entry))) ⌝ }
 {
     c_words::sounding_words(capgauze::read_sounding(s, levels))
+}
+
+// ---- packed runs
+
+// How many values of a type a slice is.
+#[no_mangle]
+pub extern "C" fn capgauze_run_count(s: &[u8], kind: u64) -> Number
+    ensures { λ r. ⌜ asNumber r ≡ typedAs badNumber (typedOf kind) (λ w. runCountTold (runCount (now (s .entry)) w)) ⌝ }
+{
+    let Typed::Is(wire) = c_words::typed_of(kind) else {
+        return c_words::run_count_words(RunCount::Refused(Refusal::BadRecord));
+    };
+    c_words::run_count_words(capgauze::run_count(s, wire))
+}
+
+// The value at a number.
+#[no_mangle]
+pub extern "C" fn capgauze_run_value(s: &[u8], kind: u64, number: usize) -> PickWords
+    ensures { λ r. ⌜ asPicked r ≡ typedAs badPick (typedOf kind) (λ w. runValueTold (runValue (now (s .entry)) w number)) ⌝ }
+{
+    let Typed::Is(wire) = c_words::typed_of(kind) else {
+        return c_words::run_value_words(RunValue::Refused(Refusal::BadRecord));
+    };
+    c_words::run_value_words(capgauze::run_value(s, wire, number))
+}
+
+// All values as records of a table.
+#[no_mangle]
+pub extern "C" fn capgauze_read_run(s: &[u8], kind: u64, table: &mut [u64]) -> Number
+    ensures { λ r. ⌜
+        record { told = asNumber r; lent = now (table .exit) }
+        ≡ typedAs (record { told = badNumber; lent = now (table .entry) }) (typedOf kind) (λ w. runTold (readRun (now (s .entry)) w (now (table .entry))))
+        ⌝ }
+{
+    let Typed::Is(wire) = c_words::typed_of(kind) else {
+        return c_words::run_count_words(RunCount::Refused(Refusal::BadRecord));
+    };
+    c_words::run_count_words(capgauze::read_run(s, wire, table))
+}
+
+// The run of a table's records at the buffer's front.
+#[no_mangle]
+pub extern "C" fn capgauze_write_run(
+    source: &[u8],
+    table: &[u64],
+    count: usize,
+    kind: u64,
+    buf: &mut [u8],
+) -> WrittenWords
+    ensures { λ r. ⌜
+        record { told = asWritten r; lent = now (buf .exit) }
+        ≡ typedAs (record { told = badWrote; lent = now (buf .entry) }) (typedOf kind) (λ w.
+        writingTold (writeRun (now (source .entry)) (now (table .entry)) count w (now (buf .entry))))
+        ⌝ }
+{
+    let Typed::Is(wire) = c_words::typed_of(kind) else {
+        return c_words::written_words(Written::Refused(Refusal::BadRecord, 0, 0));
+    };
+    c_words::written_words(capgauze::write_run(source, table, count, wire, buf))
 }

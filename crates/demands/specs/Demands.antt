@@ -64,3 +64,10 @@ pub use Rattle.demands.specs.Faults.{Located, Faulted, message-faulted, 
 pub use Rattle.demands.specs.Reading.{Whole, Meant, Third, third}
 -- .. and writing it, forwards or from the end, gives the same bytes back
 pub use Rattle.demands.specs.Writing.{forwards, from-the-end}
+-- .. and the same for runs of values of one wire type, with a table of as many records as the run has bytes, proved once for every type
+pub use Rattle.demands.specs.Runs.{WholeRun, ThirdRun, run-third, run-back, run-back-short, run-writes}
+pub use Rattle.demands.specs.Runs.{run-count-same, run-value-record, run-value-found, run-value-absent}
+pub use Rattle.run_read.specs.Theorem.{run-of-fours, run-of-eights}
+pub use Rattle.demands.specs.RunVerdict.{run-count-number, run-value-number, read-run-number, write-run-number, read-run-frame, write-run-frame}
+pub use Rattle.demands.specs.RunVerdict.{c-run-count-number, c-run-value-number, c-read-run-number, c-write-run-number}
+pub use Rattle.demands.specs.RunVerdict.{c-read-run-frame, c-write-run-frame}

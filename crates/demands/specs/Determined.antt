@@ -166,3 +166,8 @@ pub use Rattle.stream_orders.proofs.Only.{argument-of-one as stream-argument-of
 pub use Rattle.stream_orders.proofs.Only.{no-orders-one as stream-no-orders-one}
 pub use Rattle.stream_orders.proofs.Only.{ordered-one as stream-ordered-one}
 pub use Rattle.stream_orders.proofs.Only.{count-one-one as stream-count-one-one}
+pub use Rattle.run_read.proofs.Only.{run-count-one, run-value-one, read-run-one}
+pub use Rattle.run_write.proofs.Only.{write-run-one}
+pub use Rattle.c_words.proofs.Only.{run-count-words-one as c-run-count-words-one, run-value-words-one as c-run-value-words-one}
+pub use Rattle.capgauze_c.proofs.Only.{run-count-one as c-run-count-one, run-value-one as c-run-value-one}
+pub use Rattle.capgauze_c.proofs.Only.{read-run-one as c-read-run-one, write-run-one as c-write-run-one}

@@ -26,3 +26,6 @@ pub mod IndexVerdict
 pub mod Lines
 pub mod Formats
 pub mod Faults
+pub mod RunRules
+pub mod RunVerdict
+pub mod Runs

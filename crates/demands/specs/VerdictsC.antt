@@ -75,7 +75,7 @@ use Rattle.capgauze_c.proofs.capgauze_read_sounding.Kinds as read-sounding
 use Rattle.capgauze_c.proofs.capgauze_read_sounding.Reads as read-sounding-reads
 
 -- a wire type as a number: 6 above 3, else the order with that type
-typed-told : {A : Type 0} (number : A → ℕ) (by : Typed → A) (rules : WireType → List Rule) → number (by Unknown) ≡ numberOf BadRecord
+pub typed-told : {A : Type 0} (number : A → ℕ) (by : Typed → A) (rules : WireType → List Rule) → number (by Unknown) ≡ numberOf BadRecord
     → ((w : WireType) → number (by (Is w)) ≡ firstOf (rules w)) → (kind : ℕ) → number (by (typedOf kind)) ≡ firstOf (typedOrder kind rules)
 unfolding typedOf
 typed-told number by rules u h kind = go (ltb 3 kind) refl
