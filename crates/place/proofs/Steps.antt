@@ -8,7 +8,7 @@ use lib.ListN.{length, take, drop, set}
 use lib.Seq.{sets, set-set, take-add, drop-drop, take-at}
 use Rattle.place.specs.Place.{Placed, putAt, putPart, put-roomy, part-inside, length-part, put-behind, put-before, put-front, put-on}
 use Rattle.place.specs.Spans.{Spans, spans-length, spans-part}
-use Rattle.place.proofs.Turns.{Copying, copy-done}
+use Rattle.place.proofs.Turns.{Copying, copy-start, copy-done}
 
 -- ---- through a block z, which has room for all of it
 
@@ -50,12 +50,21 @@ module _ {b : List ℕ} {at : ℕ} {s : List ℕ} {from n : ℕ} {buf : List ℕ
         put = put-on (take k (drop q s)) (take (left - k) (drop (q + k) s)) (rw t at (w .put)) (rw (length-part s q k (step-reads k h), v .is));
       }
 
+  -- all that is left in one put
+  pub rest-done : {m : ℕ} {c : List ℕ} → _≡_ {A = Placed} (record { next = m; buf = c }) (putPart buf p s q left)
+      → _≡_ {A = Placed} (record { next = m; buf = c }) (putPart b at s from n)
+  rest-done {m} {c} e =
+      let v = spans-part buf p s q left (step-reads left (omega arith)) (step-writes left (omega arith)) e in
+      let i : c ≡ sets b at (take n (drop from s)) = v .is ∙ w .put .rest in
+      let r : m ≡ at + length (take n (drop from s)) = omega (arith, v .reach, w .put .next) in
+      sym (part-inside b at s from n (w .inside) ∙ put-roomy b at (take n (drop from s)) (w .put .roomy) ∙ rw (r, i))
+
   pub steps-done : left ≤ 0 → _≡_ {A = Placed} (record { next = at + n; buf = buf }) (putPart b at s from n)
   steps-done h =
       let e : at + n ≡ p = omega (arith, w .put .next, length-part s from n (w .inside), length-part s q left (step-reads left (omega arith))) in
       rw e (copy-done w h)
 
--- ---- the last step, over bytes that are there already
+-- ---- back over bytes that are there already
 
 twice : (b : List ℕ) (i : ℕ) (xs : List ℕ) → sets (sets b i xs) i xs ≡ sets b i xs
 twice b i [] = refl
@@ -78,24 +87,47 @@ over b buf at p i us ws ys e f r =
     ∙ rw e (again b at us ws ys)
 
 module _ {b : List ℕ} {at : ℕ} {s : List ℕ} {from n : ℕ} {buf : List ℕ} {p q left : ℕ} (w : Copying b at s from n buf p q left) where
+  pub back : (m i j : ℕ) → left ≤ m → m ≤ n → i + m ≡ p + left → j + m ≡ q + left → Copying b at s from n buf i j m
+  back m i j h g e f =
+      let us = take (n - m) (drop from s) in
+      let ws = take (m - left) (drop j s) in
+      let ys = take left (drop q s) in
+      let xl = length-part s from n (w .inside) in
+      let ul = length-part s from (n - m) (omega (arith, w .inside)) in
+      let wl = length-part s j (m - left) (omega (arith, w .inside, w .same)) in
+      let yl = length-part s q left (omega (arith, w .inside, w .same)) in
+      let vl = length-part s j m (omega (arith, w .inside, w .same)) in
+      let t : take m (drop j s) ≡ ws ++ ys = part-add s j m (m - left) left q (omega arith) (omega arith) in
+      let u : take n (drop from s) ≡ us ++ (ws ++ ys) =
+      part-add s from n (n - m) m j (omega arith) (omega (arith, w .same)) ∙ ap (λ (l : List ℕ). us ++ l) t in
+      let o : sets buf i (ws ++ ys) ≡ sets b at (us ++ (ws ++ ys)) =
+      over b buf at p i us ws ys (omega (arith, ul, xl, yl, w .put .next)) (omega (arith, wl)) (rw u at (w .put .rest)) in
+      record {
+        inside = w .inside;
+        same = omega (arith, w .same);
+        put = record { same = w .put .same; roomy = w .put .roomy; next = omega (arith, w .put .next, yl, vl); rest = rw (t, u) o };
+      }
+
+  -- the last step
   pub last-done : (k : ℕ) → left ≤ k → k ≤ n → {m : ℕ} {c : List ℕ}
       → _≡_ {A = Placed} (record { next = m; buf = c }) (putPart buf (at + n - k) s (from + n - k) k)
       → _≡_ {A = Placed} (record { next = m; buf = c }) (putPart b at s from n)
-  last-done k h g {m} {c} e =
-      let us = take (n - k) (drop from s) in
-      let ws = take (k - left) (drop (from + n - k) s) in
-      let ys = take left (drop q s) in
-      let xl = length-part s from n (w .inside) in
-      let ul = length-part s from (n - k) (omega (arith, w .inside)) in
-      let wl = length-part s (from + n - k) (k - left) (omega (arith, w .inside)) in
-      let yl = length-part s q left (omega (arith, w .inside, w .same)) in
-      let vl = length-part s (from + n - k) k (omega (arith, w .inside)) in
-      let t : take k (drop (from + n - k) s) ≡ ws ++ ys = part-add s (from + n - k) k (k - left) left q (omega arith) (omega (arith, w .same)) in
-      let u : take n (drop from s) ≡ us ++ (ws ++ ys) =
-      part-add s from n (n - k) k (from + n - k) (omega arith) (omega arith) ∙ ap (λ (l : List ℕ). us ++ l) t in
-      let v = spans-part buf (at + n - k) s (from + n - k) k (omega (arith, w .inside)) (omega (arith, w .put .same, w .put .roomy)) e in
-      let o : sets buf (at + n - k) (ws ++ ys) ≡ sets b at (us ++ (ws ++ ys)) =
-      over b buf at p (at + n - k) us ws ys (omega (arith, ul)) (omega (arith, w .put .next, wl)) (rw u at (w .put .rest)) in
-      let i : c ≡ sets b at (take n (drop from s)) = v .is ∙ rw (t, u) o in
-      let r : m ≡ at + length (take n (drop from s)) = omega (arith, v .reach) in
-      sym (part-inside b at s from n (w .inside) ∙ put-roomy b at (take n (drop from s)) (w .put .roomy) ∙ rw (r, i))
+  last-done k h g e =
+      let l = length-part s q left (omega (arith, w .inside, w .same)) in
+      let x = length-part s from n (w .inside) in
+      rest-done (back k (at + n - k) (from + n - k) h g (omega (arith, w .put .next, l, x)) (omega (arith, w .same))) e
+
+-- ---- the first k and the last k
+
+pub ends-done : (b : List ℕ) (at : ℕ) (s : List ℕ) (from n k : ℕ) → k ≤ n → n ≤ k + k → from + n ≤ length s → at + n ≤ length b → {m m′ : ℕ} {c d : List ℕ}
+    → _≡_ {A = Placed} (record { next = m; buf = c }) (putPart b at s from k)
+    → _≡_ {A = Placed} (record { next = m′; buf = d }) (putPart c (at + n - k) s (from + n - k) k)
+    → _≡_ {A = Placed} (record { next = m′; buf = d }) (putPart b at s from n)
+ends-done b at s from n k h g i r e f = last-done (step-more (copy-start b at s from n i r) k h e) k (omega arith) h f
+
+-- ---- the first k, and on from a place among them
+
+pub ahead : (b : List ℕ) (at : ℕ) (s : List ℕ) (from n k i : ℕ) {m : ℕ} {c : List ℕ} → _≡_ {A = Placed} (record { next = m; buf = c }) (putPart b at s from k)
+    → i ≤ k → k ≤ n → from + n ≤ length s → at + n ≤ length b → Copying b at s from n c (at + i) (from + i) (n - i)
+ahead b at s from n k i e h g j r =
+    back (step-more (copy-start b at s from n j r) k g e) (n - i) (at + i) (from + i) (omega arith) (omega arith) (omega arith) (omega arith)

@@ -11,10 +11,6 @@ use Rattle.place.specs.Place.{putAt, putPart, put-none, part-inside, len
 
 -- ---- a part of a slice
 
-pub part-none : (b : List ℕ) (at : ℕ) (s : List ℕ) (from n : ℕ) → from + n ≤ length s → length b < at + n
-    → putPart b at s from n ≡ record { next = at; buf = b }
-part-none b at s from n h g = part-inside b at s from n h ∙ put-none b at (take n (drop from s)) (omega (arith, length-part s from n h))
-
 part-next : (s : List ℕ) (q left : ℕ) → 0 < left → q < length s → take left (drop q s) ≡ getD s q 0 ∷ take (left - 1) (drop (q + 1) s)
 part-next s q zero h g = absurd (omega arith)
 part-next s q (suc left) h g =

@@ -6,7 +6,7 @@ use mathlib.Core.List.{List, [], _∷_, _++_, append-nil}
 use native.Mathlib.Omega.{arith}
 use native.Mathlib.Nat.{add-zero}
 use native.Mathlib.Numerals.{add-one}
-use borrow.Author.Tests.{le-leb, lt-leb}
+use borrow.Author.Tests.{le-leb, lt-leb, leb-true, leb-false}
 use lib.Dec.{leb}
 use lib.ListN.{length, take, drop, set, drop-of-length-le, length-drop, length-set, length-append}
 use lib.Seq.{sets, sets-eq, set-comm, length-take-le, length-sets}
@@ -41,6 +41,10 @@ prependAt b end xs = choose (leb end (length b)) (choose (leb (length xs) end) (
 -- a part of another list, if it has one
 unfoldable pub putPart : List ℕ → ℕ → List ℕ → ℕ → ℕ → Placed
 putPart b at s from n = choose (leb (from + n) (length s)) (putAt b at (take n (drop from s))) (kept b at)
+
+-- whether n bytes stand in a list of length m from a place on, and in one of length l from another place on
+unfoldable pub roomy : ℕ → ℕ → ℕ → ℕ → ℕ → Bool
+roomy m from l at n = choose (leb (from + n) m) (leb (at + n) l) false
 
 -- ---- their cases
 
@@ -88,6 +92,40 @@ part-outside b at s from n h = rw (lt-leb (from + n) (length s) h)
 
 pub length-part : (s : List ℕ) (from n : ℕ) → from + n ≤ length s → length (take n (drop from s)) ≡ n
 length-part s from n h = length-take-le n (drop from s) (omega (arith, length-drop from s))
+
+-- what the test of room says
+
+pub roomy-yes : (m from l at n : ℕ) → from + n ≤ m → at + n ≤ l → roomy m from l at n ≡ true
+unfolding roomy
+roomy-yes m from l at n h g = rw (le-leb (from + n) m h, le-leb (at + n) l g)
+
+pub roomy-outside : (m from l at n : ℕ) → m < from + n → roomy m from l at n ≡ false
+unfolding roomy
+roomy-outside m from l at n h = rw (lt-leb (from + n) m h)
+
+pub roomy-none : (m from l at n : ℕ) → from + n ≤ m → l < at + n → roomy m from l at n ≡ false
+unfolding roomy
+roomy-none m from l at n h g = rw (le-leb (from + n) m h, lt-leb (at + n) l g)
+
+pub roomy-there : (m from l at n : ℕ) → roomy m from l at n ≡ true → (from + n ≤ m) × (at + n ≤ l)
+unfolding roomy
+roomy-there m from l at n h = go (leb (from + n) m) refl
+  where
+    go : (t : Bool) → leb (from + n) m ≡ t → (from + n ≤ m) × (at + n ≤ l)
+    go true t = let x : leb (at + n) l ≡ true = simp t at h in (leb-true (from + n) m t, leb-true (at + n) l x)
+    go false t = let x : false ≡ true = simp t at h in let z : _≡_ {A = ℕ} 0 1 = cc in absurd (omega arith)
+
+pub roomy-kept : (b : List ℕ) (at : ℕ) (s : List ℕ) (from n : ℕ) → roomy (length s) from (length b) at n ≡ false → putPart b at s from n ≡ kept b at
+unfolding roomy
+roomy-kept b at s from n h = go (leb (from + n) (length s)) refl
+  where
+    go : (t : Bool) → leb (from + n) (length s) ≡ t → putPart b at s from n ≡ kept b at
+    go true t =
+        let x : leb (at + n) (length b) ≡ false = simp t at h in
+        let i : from + n ≤ length s = leb-true (from + n) (length s) t in
+        part-inside b at s from n i
+        ∙ put-none b at (take n (drop from s)) (omega (arith, length-part s from n i, leb-false (at + n) (length b) x))
+    go false t = part-outside b at s from n (leb-false (from + n) (length s) t)
 
 -- ---- PUTS THAT FOLLOW ONE ANOTHER
 

@@ -4,7 +4,7 @@ ghost use mathlib.Core.Path.{_≡_};
 ghost use Prim.Native.Nat.{_+_, _≤_, _<_};
 ghost use lib.ListN.{length};
 ghost use Rattle.wire.specs.Fixed.{fixed};
-ghost use Rattle.place.specs.Place.{Placed, putAt, putPart};
+ghost use Rattle.place.specs.Place.{Placed, putAt, putPart, roomy};
 
 // A byte at a time.
 fn put_each(buf: &mut [u8], at: usize, bytes: &[u8], from: usize, n: usize) -> usize
@@ -53,32 +53,99 @@ fn put_steps(buf: &mut [u8], at: usize, bytes: &[u8], from: usize, n: usize, k: 
     at + n
 }
 
+// At least k bytes and at most twice as many: the first k of them and the last k.
+fn put_ends(buf: &mut [u8], at: usize, bytes: &[u8], from: usize, n: usize, k: usize) -> usize
+    requires { ⌜ (k ≤ 128) × (k ≤ n) × (n ≤ k + k) × (from + n ≤ length (now bytes)) × (at + n ≤ length (now buf)) ⌝ }
+    ensures { λ r. ⌜ record { next = r; buf = now (buf .exit) } ≡ putPart (now (buf .entry)) at (now (bytes .entry)) from n ⌝ }
+{
+    put_block(buf, at, bytes, from, k);
+    put_block(buf, at + n - k, bytes, from + n - k, k)
+}
+
+// At most 32 bytes.
+fn put_few(buf: &mut [u8], at: usize, bytes: &[u8], from: usize, n: usize) -> usize
+    requires { ⌜ (n ≤ 32) × (from + n ≤ length (now bytes)) × (at + n ≤ length (now buf)) ⌝ }
+    ensures { λ r. ⌜ record { next = r; buf = now (buf .exit) } ≡ putPart (now (buf .entry)) at (now (bytes .entry)) from n ⌝ }
+{
+    if n < 16 {
+        if n < 8 {
+            if n < 4 {
+                return put_each(buf, at, bytes, from, n);
+            }
+            return put_ends(buf, at, bytes, from, n, 4);
+        }
+        return put_ends(buf, at, bytes, from, n, 8);
+    }
+    put_ends(buf, at, bytes, from, n, 16)
+}
+
+// More. Where there are many, sixteen are put first, then 128 at a time from a place that sixteen divides, in blocks of sixteen: a buffer mostly starts at such an
+// address too, and stores that do not cross one are faster.
+fn put_many(buf: &mut [u8], at: usize, bytes: &[u8], from: usize, n: usize) -> usize
+    requires { ⌜ (16 ≤ n) × (from + n ≤ length (now bytes)) × (at + n ≤ length (now buf)) ⌝ }
+    ensures { λ r. ⌜ record { next = r; buf = now (buf .exit) } ≡ putPart (now (buf .entry)) at (now (bytes .entry)) from n ⌝ }
+{
+    if n < 160 {
+        return put_steps(buf, at, bytes, from, n, 16);
+    }
+    put_block(buf, at, bytes, from, 16);
+    let skip = 16 - at % 16;
+    let mut p = at + skip;
+    let mut q = from + skip;
+    let mut left = n - skip;
+    while 144 <= left {
+        put_steps(buf, p, bytes, q, 128, 16);
+        p += 128;
+        q += 128;
+        left -= 128;
+    }
+    put_steps(buf, p, bytes, q, left, 16)
+}
+
+// Whether n bytes from a place on stand in a slice of so many, and n from another place on in a buffer of so many.
+fn has_room(len: usize, from: usize, room: usize, at: usize, n: usize) -> bool
+    ensures { λ r. ⌜ r ≡ roomy len from room at n ⌝ }
+{
+    if len < from {
+        return false;
+    }
+    if len - from < n {
+        return false;
+    }
+    if room < at {
+        return false;
+    }
+    if room - at < n {
+        return false;
+    }
+    true
+}
+
 // n bytes of a slice, from a place of it on. A part that runs past the slice is not put.
+// INLINE: this one stays a call, because more than one function calls it; `put_part` is folded into its callers.
+pub fn put_bytes(buf: &mut [u8], at: usize, bytes: &[u8], from: usize, n: usize) -> usize
+    ensures { λ r. ⌜ record { next = r; buf = now (buf .exit) } ≡ putPart (now (buf .entry)) at (now (bytes .entry)) from n ⌝ }
+{
+    if has_room(bytes.len(), from, buf.len(), at, n) {
+        if n <= 32 {
+            return put_few(buf, at, bytes, from, n);
+        }
+        return put_many(buf, at, bytes, from, n);
+    }
+    at
+}
+
+// The same for a part that is mostly short.
 pub fn put_part(buf: &mut [u8], at: usize, bytes: &[u8], from: usize, n: usize) -> usize
     ensures { λ r. ⌜ record { next = r; buf = now (buf .exit) } ≡ putPart (now (buf .entry)) at (now (bytes .entry)) from n ⌝ }
 {
-    if bytes.len() < from {
-        return at;
+    if 32 < n {
+        return put_bytes(buf, at, bytes, from, n);
     }
-    if bytes.len() - from < n {
-        return at;
+    if has_room(bytes.len(), from, buf.len(), at, n) {
+        return put_few(buf, at, bytes, from, n);
     }
-    if buf.len() < at {
-        return at;
-    }
-    if buf.len() - at < n {
-        return at;
-    }
-    if n < 16 {
-        if n < 8 {
-            return put_each(buf, at, bytes, from, n);
-        }
-        return put_steps(buf, at, bytes, from, n, 8);
-    }
-    if n < 128 {
-        return put_steps(buf, at, bytes, from, n, 16);
-    }
-    put_steps(buf, at, bytes, from, n, 128)
+    at
 }
 
 // A number in so many bytes, lowest first.

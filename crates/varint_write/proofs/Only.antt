@@ -7,6 +7,8 @@ use Rattle.varint_write.proofs.varint_limit.Kinds as varint-limit
 use Rattle.varint_write.proofs.varint_limit.Reads as varint-limit-reads
 use Rattle.varint_write.proofs.encoded_len_varint.Kinds as encoded-len-varint
 use Rattle.varint_write.proofs.encoded_len_varint.Reads as encoded-len-varint-reads
+use Rattle.varint_write.proofs.count_len.Kinds as count-len
+use Rattle.varint_write.proofs.count_len.Reads as count-len-reads
 use Rattle.varint_write.proofs.put_varint.Kinds as put-varint
 use Rattle.varint_write.proofs.put_varint.Reads as put-varint-reads
 use Rattle.varint_write.proofs.prepend_varint.Kinds as prepend-varint
@@ -17,6 +19,9 @@ varint-limit-one κs a x y s t p q = p ∙ sym q
 
 pub encoded-len-varint-one : One 0 encoded-len-varint.ps encoded-len-varint.r encoded-len-varint-reads.Post (λ κs r s. r)
 encoded-len-varint-one κs a x y s t p q = p ∙ sym q
+
+pub count-len-one : One 0 count-len.ps count-len.r count-len-reads.Post (λ κs r s. r)
+count-len-one κs a x y s t p q = p ∙ sym q
 
 pub put-varint-one : One 1 put-varint.ps put-varint.r put-varint-reads.Post {S = Placed} (λ κs r s. record { next = r; buf = now (s .0) })
 put-varint-one κs a x y s t p q = p ∙ sym q

@@ -66,6 +66,17 @@ pub fn encoded_len_varint(v: u64) -> usize
     }
 }
 
+// The same with no branch. The highest bit of v less a part in 128 tells between which limits v lies; the numbers are made odd so that the bound is exact and
+// the last of them is not 0.
+pub fn count_len(v: u64) -> usize
+    ensures { λ r. ⌜ r ≡ length (encode v) ⌝ }
+{
+    let x = v - v % 2 + 1;
+    let z = x - x / 128;
+    let y = z - z % 2 + 1;
+    (9 * (63 - u64::leading_zeros(y) as usize) + 72) / 64
+}
+
 // A number that is written as two bytes, where they have room.
 fn put_two(buf: &mut [u8], at: usize, v: u64)
     requires { ⌜ (128 ≤ v) × (v < 0x4080) × (at + 2 ≤ length (now buf)) ⌝ }
@@ -147,7 +158,7 @@ pub fn prepend_varint(buf: &mut [u8], end: usize, v: u64) -> usize
         put_two(buf, end - 2, v);
         return end - 2;
     }
-    let n = encoded_len_varint(v);
+    let n = count_len(v);
     if end < n {
         return end;
     }

@@ -41,11 +41,11 @@ returns-5 c =
     prepended _ _ _ 2 (sym (two-long _ (t .before .if2 .left) (t .if4 .taken))) (t .before .before .if1 .left) (omega arith)
     (c .before .before .put-two .ensures)
 
-encoded-len-varint-requires : tie.Need-encoded-len-varint-requires
-encoded-len-varint-requires c κs = search needs
+count-len-requires : tie.Need-count-len-requires
+count-len-requires c κs = search needs
 
 returns-6 : tie.Need-returns-6
-returns-6 c = sym (prepend-none _ _ _ (omega (arith, c .before .encoded-len-varint .ensures)))
+returns-6 c = sym (prepend-none _ _ _ (omega (arith, c .before .count-len .ensures)))
 
 put-long-requires : tie.Need-put-long-requires
 put-long-requires c κs = search needs
@@ -56,7 +56,7 @@ same-length-3 c = search needs
 returns-7 : tie.Need-returns-7
 returns-7 c =
     let t = c .before .before .before .before in
-    long-prepended _ _ _ _ (t .before .encoded-len-varint .ensures) (t .before .before .before .before .if1 .left) (t .if6 .left)
+    long-prepended _ _ _ _ (t .before .count-len .ensures) (t .before .before .before .before .if1 .left) (t .if6 .left)
     (c .before .before .put-long .ensures)
 
 pub prepend-varint-spec : {M : Type 1} → statement M
@@ -73,7 +73,7 @@ prepend-varint-spec =
     put-two-requires
     same-length-2
     returns-5
-    encoded-len-varint-requires
+    count-len-requires
     returns-6
     put-long-requires
     same-length-3
