@@ -1,12 +1,13 @@
 -- The cases of a lookup over two messages; what is found of a tag lies inside its message.
 use Prim.Native.Nat.{ℕ, zero, suc, _+_, _-_, _≤_, _<_}
-use mathlib.Core.Path.{_≡_, refl, ap, _∙_}
+use mathlib.Core.Path.{_≡_, refl, ap, _∙_, sym, subst}
 use mathlib.Core.Bool.{Bool, true, false}
 use mathlib.Core.List.{List, _∷_}
 use native.Mathlib.Omega.{arith}
 use borrow.Author.Tests.{ltb-true, ltb-false, eq-eqb, ne-eqb, eqb-true, eqb-false}
 use lib.Dec.{ltb, eqb}
-use lib.ListN.{length}
+use lib.ListN.{length, take, drop}
+use denote.Ref.{RefT, now}
 use Rattle.wire.specs.Choose.{choose}
 use Rattle.wire.specs.Reading.{varintAt, cappedAt, keyAt, valueAt, fieldAt, Message, Fields, inFront, readMessage}
 use Rattle.wire.specs.Reading as reading
@@ -27,11 +28,12 @@ use Rattle.message_payload.specs.declared.Span.{Span}
 use Rattle.entry_answer.specs.Gate.{gated, through, through-open, through-shut}
 use Rattle.entry_answer.specs.declared.Gated.{Gated}
 use Rattle.entry_answer.specs.declared.Gated.the-variants.{Open, Shut}
+use Rattle.entry_message.specs.Messages.{Part, partAt}
 use Rattle.correct_supply.specs.declared.Held.{Held}
 use Rattle.correct_supply.specs.declared.Held.the-variants as heldAs
 use Rattle.correct_supply.specs.declared.Supply.{Supply}
 use Rattle.correct_supply.specs.declared.Supply.the-variants as supply
-use Rattle.correct_supply.specs.Supplying.{nowhere, after, bareAt, bareOf, between, ahead, heldIn, accepting, held, alone, chosen, judged, supplyOf}
+use Rattle.correct_supply.specs.Supplying.{span, nowhere, after, bareAt, bareOf, between, ahead, heldIn, accepting, held, alone, chosen, judged, supplyOf}
 
 -- ---- one message
 
@@ -70,6 +72,15 @@ accepting-front f (reading.Refused r p) h = refl
 pub accepting-ahead : (n : ℕ) (f : Span) (m : Message) (h : Held) → accepting m (ahead n f h) ≡ ahead n f (accepting m h)
 accepting-ahead n f (Fields fs) h = refl
 accepting-ahead n f (reading.Refused r p) h = refl
+
+-- ---- a part of a lent message, from a start on, so many bytes
+
+pub lies : (m : RefT (List ℕ)) (a n : ℕ) (q : Part) → partAt m (span a n) ≡ q
+    → _≡_ {A = Part} (record { block = m .ptr .0; place = a + m .ptr .1; bytes = take (a + n - a) (drop a (now m)) }) q
+lies m a n q h =
+    let e : a + n - a ≡ n = omega arith in
+    let f : a + m .ptr .1 ≡ m .ptr .1 + a = omega arith in
+    rw (e, f) h
 
 -- ---- a value's own bytes, by the places behind its key and behind it
 
@@ -111,12 +122,19 @@ between-inside s e q wireType.SixtyFourBit v n h =
     let m = value-moves s e q wireType.SixtyFourBit v n h in
     rw (within-got s e (q + 8) _ v n h .0) (omega (arith, m .0, m .1))
 
+-- of a field that is read
+pub bare-field : (s : List ℕ) (e p last : ℕ) (f : Field) (q : ℕ) (h : fieldAt s e p last ≡ fieldFound.Got f q)
+    → between (f .value) (field-found s e p last f q h .middle) q ≡ bareOf s (record { key = p; field = f })
+bare-field s e p last f q h =
+    let x = field-found s e p last f q h in
+    bare-between s e (x .middle) (x .wire) (f .value) q (x .value)
+    ∙ ap (λ (k : ℕ). bareAt s k (f .value)) (sym (ap (after p) (x .key .read)))
+
 pub field-inside : (s : List ℕ) (e p last : ℕ) (f : Field) (q : ℕ) → fieldAt s e p last ≡ fieldFound.Got f q
     → Inside (length s) (bareOf s (record { key = p; field = f }))
 field-inside s e p last f q h =
     let x = field-found s e p last f q h in
-    let b = bare-between s e (x .middle) (x .wire) (f .value) q (x .value) in
-    rw (x .key .read, ← b) (between-inside s e (x .middle) (x .wire) (f .value) q (x .value))
+    subst (λ (r : Span). Inside (length s) r) (bare-field s e p last f q h) (between-inside s e (x .middle) (x .wire) (f .value) q (x .value))
 
 abbrev pub HeldInside : ℕ → Held → Type 0
 HeldInside n (heldAs.Fields c f) = Inside n f

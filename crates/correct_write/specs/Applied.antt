@@ -1,6 +1,6 @@
 -- What an answer of so many bytes says: the result is a message whose items are the original's under the correction's, and the correction applied to it
 -- gives the same bytes.
-use Prim.Native.Nat.{ℕ, _-_, _≤_}
+use Prim.Native.Nat.{ℕ, _+_, _-_, _≤_}
 use mathlib.Core.Path.{_≡_, refl, ap, _∙_, sym}
 use mathlib.Core.Bool.{Bool, true, false}
 use mathlib.Core.List.{List, [], _++_}
@@ -21,11 +21,11 @@ use Rattle.entry_answer.specs.Gate.{gated, through-open, through-shut, gated-op
 use Rattle.entry_answer.specs.Stores.{Stored}
 use Rattle.entry_answer.specs.declared.Gated.{Gated}
 use Rattle.entry_answer.specs.declared.Gated.the-variants.{Open, Shut}
-use Rattle.entry_answer.specs.declared.Put.{Put}
 use Rattle.entry_answer.specs.declared.Put.the-variants as put
 use Rattle.correct_write.specs.Corrected.{corrected, Taken, Items, Refused, takenOf, taken, writeCorrected}
 use Rattle.correct_write.specs.Corrected.{write-original, write-correction, write-long, write-no-room, write-done}
 use Rattle.correct_write.specs.TagByTag.{good-corrected, applied-again, corrected-empty}
+use Rattle.correct_write.specs.Shorter.{both-enough}
 
 -- ---- a message and its items
 
@@ -83,6 +83,10 @@ module _ {o c : List ℕ} {os cs : List Item} (w : Means o os) (v : Means c cs) 
       (means-taken c cs v) (rw e l) (rw e n)
       ∙ rw e
 
+-- ROOM OF BOTH LENGTHS IS ENOUGH
+pub result-short : {o c : List ℕ} {os cs : List Item} → Means o os → Means c cs → length (written (corrected cs os)) ≤ length o + length c
+result-short {o} {c} {os} {cs} w v = omega (arith, both-enough 0 cs os (v .good) (w .good), ap length (w .bytes), ap length (v .bytes))
+
 -- NOTHING CORRECTED, and nothing there to be corrected
 pub nothing-corrected : (o : List ℕ) (os : List Item) → Means o os → written (corrected [] os) ≡ o
 nothing-corrected o os w = w .bytes
@@ -102,8 +106,8 @@ pub record Was (o c b : List ℕ) (n : ℕ) (d : List ℕ) : Type 0 where
   pub room : length (written (corrected correction original)) ≤ length b
   pub left : d ≡ written (corrected correction original) ++ drop n b
 
-done-refused : {A : Type 0} {n : ℕ} {r : Refusal} {d e : List ℕ} → _≡_ {A = Stored} (record { answer = put.Done n; buf = d }) (record { answer = put.Refused r; buf = e })
-    → A
+pub done-refused : {A : Type 0} {n : ℕ} {r : Refusal} {d e : List ℕ}
+    → _≡_ {A = Stored} (record { answer = put.Done n; buf = d }) (record { answer = put.Refused r; buf = e }) → A
 done-refused {A} {n} {r} h =
     let f : put.Done n ≡ put.Refused r = ap (λ (s : Stored). s .answer) h in
     let z : _≡_ {A = ℕ} 0 1 = cc in absurd (omega arith)

@@ -4,5 +4,6 @@ pub mod Rests
 pub mod Moving
 pub mod Turning
 pub mod Accepting
+pub mod Shorter
 pub mod Applied
 pub mod Cases

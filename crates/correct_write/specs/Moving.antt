@@ -57,7 +57,8 @@ module _ (s : List ℕ) (p last end out : ℕ) where
     unfolding moved
     moved-key k q h = rw (lt-ltb p end a, h)
 
-pub run-key : {s : List ℕ} {p last end : ℕ} → Run s p last end → p < end → (k : Key) (q : ℕ) → keyAt s (length s) p last ≡ keyFound.Got k q → (p < q) × (q ≤ end)
+pub run-key : {s : List ℕ} {p last end : ℕ} → Run s p last end → p < end → (k : Key) (q : ℕ) → keyAt s (length s) p last ≡ keyFound.Got k q
+    → (p < q) × (q ≤ end)
 run-key {s} {p} {last} {end} w a k q h =
     let x = w .keyed a in
     let e : keyFound.Got k q ≡ keyFound.Got (x .0) (x .1) = sym h ∙ x .2 in

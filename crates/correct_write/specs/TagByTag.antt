@@ -207,7 +207,7 @@ good-kept m t (o ∷ os) g = go (ltb t (o .tag)) refl (good-kept (o .tag) t os (
     go true x ih = rw x (g .0, ih)
     go false x ih = rw x (good-lower m (o .tag) (above t os) (g .0 .order) ih)
 
-good-above : (m t : ℕ) (os : List Item) → GoodFrom m os → GoodFrom t (above t os)
+pub good-above : (m t : ℕ) (os : List Item) → GoodFrom m os → GoodFrom t (above t os)
 good-above m t [] g = tt
 good-above m t (o ∷ os) g = go (ltb t (o .tag)) refl (good-above (o .tag) t os (g .1))
   where

@@ -47,7 +47,8 @@ heads-over {s} {p} {last} {t} b w h =
     rw (h .is) (e, over-wider (h .first .tag) t (h .others) e (ordered-over (h .first .tag) (h .others) (good-ordered (h .first .tag) (h .others) (g .1))))
 
 -- the tag behind the original's fields of lower tags
-pub later-tag : (s : List ℕ) → Bytes s → (p last limit q tag prior : ℕ) (w : Passing s p last limit q tag) → lastTag prior (w .passed) ≡ choose (ltb p q) tag prior
+pub later-tag : (s : List ℕ) → Bytes s → (p last limit q tag prior : ℕ) (w : Passing s p last limit q tag)
+    → lastTag prior (w .passed) ≡ choose (ltb p q) tag prior
 later-tag s b p last limit q tag prior w = go (ltb p q) refl
   where
     go : (x : Bool) → ltb p q ≡ x → lastTag prior (w .passed) ≡ choose (ltb p q) tag prior
@@ -146,7 +147,9 @@ module _ {o c : List ℕ} {p last q tag n : ℕ} (y : Both o c) (w : Measuring o
 
     pub measure-second : n + length (moved o p last (t .low) tag) + length (moved c q tag (t .group) (t .out)) ≤ 18 * messageLimit
     measure-second =
-        omega (arith, w .few, moved-few (x .low) tag, moved-few (x .group) (t .out), x .low .inside, x .group .inside, x .onward, x .further, y .short, y .brief)
+        let a = moved-few (x .low) tag in
+        let b = moved-few (x .group) (t .out) in
+        omega (arith, w .few, a, b, x .low .inside, x .group .inside, x .onward, x .further, y .short, y .brief)
 
     pub measure-more : Measuring o c (t .next) (t .last) (t .group) (t .tag)
         (n + length (moved o p last (t .low) tag) + length (moved c q tag (t .group) (t .out)))

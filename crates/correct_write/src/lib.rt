@@ -164,7 +164,7 @@ fn put_moved(
         KeyFound::Got(key, q) => {
             let wire = key.wire;
             let next = field_key::put_key(buf, to, out, key.tag, wire);
-            place::put_part(buf, next, s, q, end - q)
+            place::put_bytes(buf, next, s, q, end - q)
         }
     }
 }

@@ -1,13 +1,10 @@
 -- The part lies inside the message that supplies the tag.
 use mathlib.Core.Path.{_≡_, _∙_, ap, sym}
 use native.Mathlib.Omega.{arith}
-use Prim.Native.Nat.{_+_, _-_, _≤_}
 use lib.ListN.{length}
-use Rattle.entry_message.specs.Messages.{Part, partAt}
-use Rattle.correct_supply.specs.declared.Supply.{Supply}
 use Rattle.correct_supply.specs.declared.Supply.the-variants as supply
-use Rattle.correct_supply.specs.Supplying.{nowhere, supplyOf, partIn, correctedPart}
-use Rattle.correct_supply.specs.SupplyLaws.{Inside, original-inside, correction-inside}
+use Rattle.correct_supply.specs.Supplying.{supplyOf, partIn, correctedPart}
+use Rattle.correct_supply.specs.SupplyLaws.{Inside, lies, original-inside, correction-inside}
 use borrow.Author.Needs.{needs}
 use Rattle.correct_supply.proofs.corrected_part.Statement.{statement}
 use Rattle.correct_supply.proofs.corrected_part.Tie as tie
@@ -90,10 +87,7 @@ returns c =
     let i = c .before .before .before in
     let p = i .p .given .0 .0 in
     let a = i .before .before .before .before .before .args in
-    let m = a .original in
-    let e : (p .start + p .length) - p .start ≡ p .length = omega arith in
-    let f : p .start + m .ptr .1 ≡ m .ptr .1 + p .start = omega arith in
-    rw (e, f) (sym (ap (partIn (a .original) (a .correction)) (old i)))
+    lies (a .original) (p .start) (p .length) _ (sym (ap (partIn (a .original) (a .correction)) (old i)))
 
 returns-2 : tie.Need-returns-2
 unfolding correctedPart
@@ -101,26 +95,21 @@ returns-2 c =
     let i = c .before .before .before in
     let p = i .p2 .given .0 .0 in
     let a = i .before .before .before .before .before .args in
-    let m = a .correction in
-    let e : (p .start + p .length) - p .start ≡ p .length = omega arith in
-    let f : p .start + m .ptr .1 ≡ m .ptr .1 + p .start = omega arith in
-    rw (e, f) (sym (ap (partIn (a .original) (a .correction)) (new i)))
+    lies (a .correction) (p .start) (p .length) _ (sym (ap (partIn (a .original) (a .correction)) (new i)))
 
 returns-3 : tie.Need-returns-3
 unfolding correctedPart
 returns-3 c =
     let i = c .before .before .before in
     let a = i .before .before .before .args in
-    let f : 0 + a .original .ptr .1 ≡ a .original .ptr .1 + 0 = omega arith in
-    rw f (sym (ap (partIn (a .original) (a .correction)) (sym (i .supply-of .ensures) ∙ c .before .enum-told .given .1)))
+    lies (a .original) 0 0 _ (sym (ap (partIn (a .original) (a .correction)) (sym (i .supply-of .ensures) ∙ c .before .enum-told .given .1)))
 
 returns-4 : tie.Need-returns-4
 unfolding correctedPart
 returns-4 c =
     let i = c .before .before .before in
     let a = i .before .before .before .args in
-    let f : 0 + a .original .ptr .1 ≡ a .original .ptr .1 + 0 = omega arith in
-    rw f (sym (ap (partIn (a .original) (a .correction)) (sym (i .supply-of .ensures) ∙ c .before .enum-told2 .given .1)))
+    lies (a .original) 0 0 _ (sym (ap (partIn (a .original) (a .correction)) (sym (i .supply-of .ensures) ∙ c .before .enum-told2 .given .1)))
 
 pub corrected-part-spec : {M : Type 1} → statement M
 corrected-part-spec =

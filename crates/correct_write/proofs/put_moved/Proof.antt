@@ -31,14 +31,14 @@ keyed : (c : tie.After-key) → let a = c .before .before .before .before .befor
     keyAt (a .s .now) (length (a .s .now)) (a .at) (a .last) ≡ keyFound.Got (c .key .given .0 .0) (c .key .given .0 .1 .0)
 keyed c = sym (c .before .before .decode-key .ensures) ∙ c .key .given .1
 
-sub-put-part : tie.Need-sub-put-part
-sub-put-part c =
+sub-put-bytes : tie.Need-sub-put-bytes
+sub-put-bytes c =
     let k = c .before .before .before .before .before .before in
     let i = k .before .before .before in
     omega (arith, run-key (i .before .before .before .pre .0) (i .if1 .left) _ _ (keyed k) .1)
 
-put-part-requires : tie.Need-put-part-requires
-put-part-requires c κs = search needs
+put-bytes-requires : tie.Need-put-bytes-requires
+put-bytes-requires c κs = search needs
 
 returns-2 : tie.Need-returns-2
 returns-2 c =
@@ -54,7 +54,7 @@ returns-3 c =
     let i = k .before .before .before in
     let a = i .before .before .before in
     put-stretch (a .pre .0) _ _ _ (i .if1 .left) _ _ (keyed k) (a .pre .1)
-    (c .before .before .before .before .before .before .put-key .ensures) (c .before .before .put-part .ensures)
+    (c .before .before .before .before .before .before .put-key .ensures) (c .before .before .put-bytes .ensures)
 
 pub put-moved-spec : {M : Type 1} → statement M
 put-moved-spec =
@@ -65,8 +65,8 @@ put-moved-spec =
     enum-told
     enum-known-key
     put-key-requires
-    sub-put-part
-    put-part-requires
+    sub-put-bytes
+    put-bytes-requires
     returns-2
     same-length
     returns-3)

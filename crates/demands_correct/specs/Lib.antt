@@ -1,0 +1,4 @@
+pub mod CorrectingRules
+pub mod CorrectingLaws
+pub mod CorrectingVerdict
+pub mod Correcting

@@ -1,0 +1,1 @@
+// Corrections over an original: theorems, no code.
