@@ -11,12 +11,16 @@ use lib.ListN.{length, drop}
 use lib.Seq.{sets, sets-eq, length-sets}
 use Rattle.wire.specs.Choose.{choose}
 use Rattle.wire.specs.Limits.{recordWords}
-use Rattle.wire.specs.Reading.{valueAt}
+use Rattle.wire.specs.Reading.{varintAt, valueAt}
 use Rattle.wire.specs.ReadingLaws.{value-moves}
 use Rattle.wire.specs.Table.{words}
 use Rattle.wire.specs.declared.Refusal.{Refusal}
+use Rattle.wire.specs.declared.Refusal.the-variants.{Truncated}
 use Rattle.wire.specs.declared.WireType.{WireType}
+use Rattle.wire.specs.declared.WireType.the-variants.{Varint}
 use Rattle.wire.specs.declared.Value.{Value}
+use Rattle.wire.specs.declared.Value.the-variants as val
+use Rattle.wire.specs.declared.VarintFound.the-variants as varintFound
 use Rattle.wire.specs.declared.Record.{Record}
 use Rattle.wire.specs.declared.ValueFound.the-variants as valueFound
 use Rattle.entry_answer.specs.declared.RunCount.{RunCount}
@@ -26,6 +30,19 @@ use Rattle.entry_answer.specs.declared.RunValue.the-variants as value
 use Rattle.run_read.specs.Packed.{Packed, Values, Refused, leading, packedFrom, packed, packed-end, packed-value, packed-refused, leading-values}
 use Rattle.run_read.specs.Packed.{runRecord, runRecords, length-run-records}
 use Rattle.run_read.specs.Runs.{countOf, numbered, numberedOf, intoTable, Ready}
+use Rattle.run_read.specs.Widths.{width, wideType, wideValue, wide-got, wide-short}
+
+-- ---- a number of the run, whose end is the slice's
+
+module _ (s : List ℕ) (p : ℕ) where
+  pub number-got : (v q : ℕ) → varintAt s p ≡ varintFound.Got v q → valueFound.Got (val.Varint v) q ≡ valueAt s (length s) p Varint
+  number-got v q e = rw e
+
+  pub number-short : (r : Refusal) → varintAt s p ≡ varintFound.Refused r → length s < p + 9 → valueFound.Refused Truncated ≡ valueAt s (length s) p Varint
+  number-short r e h = rw (e, lt-ltb (length s) (p + 9) h)
+
+  pub number-refused : (r : Refusal) → varintAt s p ≡ varintFound.Refused r → p + 9 ≤ length s → valueFound.Refused r ≡ valueAt s (length s) p Varint
+  number-refused r e h = rw (e, le-ltb (length s) (p + 9) h)
 
 -- ---- the run from a place on
 
@@ -200,7 +217,7 @@ module _ {s : List ℕ} {w : WireType} {goal : List ℕ} {p i : ℕ} {t : List �
     fill-on r u a b =
         let e : u ≡ sets t i (words (runRecord v)) = b ∙ ap (λ (o : Record). sets t i (words o)) a in
         let n = ap length e ∙ length-sets t i (words (runRecord v)) in
-        let d : i + recordWords ≡ suc (suc (suc (suc i))) = omega arith in (
+        let d : i + recordWords ≡ suc (suc (suc (suc (suc i)))) = omega arith in (
           record {
             values = ahead .0;
             rest = ahead .1;
@@ -209,3 +226,19 @@ module _ {s : List ℕ} {w : WireType} {goal : List ℕ} {p i : ℕ} {t : List �
           },
           n,
         )
+
+-- fixed values, none of which is cut short
+module _ {s : List ℕ} (b : Bool) {goal : List ℕ} {p i : ℕ} {t : List ℕ} (f : Filling s (wideType b) goal p i t) (h : p < length s) where
+  pub wide-inside : p + width b ≤ length s
+  wide-inside = go (ltb (length s) (p + width b)) refl
+    where
+      go : (c : Bool) → ltb (length s) (p + width b) ≡ c → p + width b ≤ length s
+      go true c = fill-refused f Truncated h (wide-short b s p (ltb-true (length s) (p + width b) c))
+      go false c = ltb-false (length s) (p + width b) c
+
+  pub wide-room : i + recordWords ≤ length t
+  wide-room = fill-room f (wideValue b s p) (p + width b) h (wide-got b s p wide-inside)
+
+  pub wide-on : (r : Record) (u : List ℕ) → r ≡ runRecord (wideValue b s p) → u ≡ sets t i (words r)
+      → Filling s (wideType b) goal (p + width b) (i + recordWords) u × (length u ≡ length t)
+  wide-on = fill-on f (wideValue b s p) (p + width b) h (wide-got b s p wide-inside)

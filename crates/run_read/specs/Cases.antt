@@ -2,6 +2,7 @@
 use Prim.Native.Nat.{ℕ}
 use mathlib.Core.Path.{_≡_, refl}
 use mathlib.Core.List.{List, [], _∷_}
+use Rattle.wire.specs.Limits.{noKey}
 use Rattle.wire.specs.Reading.{varintAt}
 use Rattle.wire.specs.declared.Refusal.the-variants.{Truncated, InvalidVarint, NoRoom}
 use Rattle.wire.specs.declared.WireType.the-variants.{Varint, LengthDelimited, ThirtyTwoBit, SixtyFourBit}
@@ -43,8 +44,8 @@ unfolding runCount gated packed packedFrom varintAt
 nine-large = refl
 
 -- `01 AA 00`: two payloads, each behind its length
-pub two-payloads : readRun (1 ∷ 170 ∷ 0 ∷ []) LengthDelimited (9 ∷ 9 ∷ 9 ∷ 9 ∷ 9 ∷ 9 ∷ 9 ∷ 9 ∷ 7 ∷ [])
-    ≡ outcome (count.Values 2) (0 ∷ 1 ∷ 1 ∷ 1 ∷ 0 ∷ 1 ∷ 3 ∷ 0 ∷ 7 ∷ [])
+pub two-payloads : readRun (1 ∷ 170 ∷ 0 ∷ []) LengthDelimited (9 ∷ 9 ∷ 9 ∷ 9 ∷ 9 ∷ 9 ∷ 9 ∷ 9 ∷ 9 ∷ 9 ∷ 7 ∷ [])
+    ≡ outcome (count.Values 2) (0 ∷ 1 ∷ 1 ∷ 1 ∷ noKey ∷ 0 ∷ 1 ∷ 3 ∷ 0 ∷ noKey ∷ 7 ∷ [])
 unfolding readRun gated packed packedFrom varintAt
 two-payloads = refl
 
@@ -67,6 +68,6 @@ pub no-room-last : readRun (0 ∷ 128 ∷ []) Varint [] ≡ outcome (count.Refus
 unfolding readRun gated packed packedFrom varintAt
 no-room-last = refl
 
-pub no-room : readRun (0 ∷ 5 ∷ []) Varint (9 ∷ 9 ∷ 9 ∷ 9 ∷ 8 ∷ []) ≡ outcome (count.Refused NoRoom) (9 ∷ 9 ∷ 9 ∷ 9 ∷ 8 ∷ [])
+pub no-room : readRun (0 ∷ 5 ∷ []) Varint (9 ∷ 9 ∷ 9 ∷ 9 ∷ 9 ∷ 8 ∷ []) ≡ outcome (count.Refused NoRoom) (9 ∷ 9 ∷ 9 ∷ 9 ∷ 9 ∷ 8 ∷ [])
 unfolding readRun gated packed packedFrom varintAt
 no-room = refl

@@ -2,3 +2,4 @@ pub mod Packed
 pub mod Theorem
 pub mod Runs
 pub mod Cases
+pub mod Widths

@@ -8,7 +8,7 @@ use borrow.Author.Tests.{lt-ltb, le-ltb, ltb-true, ltb-false}
 use lib.Dec.{ltb}
 use lib.ListN.{length, drop}
 use Rattle.wire.specs.Choose.{choose}
-use Rattle.wire.specs.Limits.{recordWords}
+use Rattle.wire.specs.Limits.{recordWords, noKey}
 use Rattle.wire.specs.Numbers.{kindOf}
 use Rattle.wire.specs.Written.{Content, contentKind, writtenContent, GoodContent}
 use Rattle.wire.specs.Places.{shown}
@@ -109,10 +109,10 @@ pub length-contents : (s : List ℕ) (vs : List Value) → length (contents s vs
 length-contents s [] = refl
 length-contents s (v ∷ vs) = ap suc (length-contents s vs)
 
--- ---- in a table (rule U4): the records of a run have tag 0
+-- ---- in a table (rule U4): the records of a run have tag 0 and no key
 
 abbrev pub runRecord : Value → Record
-runRecord v = record { tag = 0; kind = kindWord v; value = valueWord v; length = lengthWord v }
+runRecord v = record { tag = 0; kind = kindWord v; value = valueWord v; length = lengthWord v; key = noKey }
 
 abbrev pub runRecords : List Value → List ℕ
 runRecords [] = []

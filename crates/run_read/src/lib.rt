@@ -1,30 +1,55 @@
 // Packed runs, read: values of one wire type behind one another, without keys. The run is the whole slice. From src/encoding/opaque.rs (`packed`) of bilrost.
 ghost use mathlib.Core.Path.{_≡_};
-ghost use Prim.Native.Nat.{_+_, _≤_};
-ghost use lib.ListN.{length};
+ghost use Prim.Native.Nat.{_+_, _≤_, _<_, _^_};
+ghost use lib.ListN.{length, take, drop};
 ghost use lib.Seq.{sets};
-ghost use Rattle.wire.specs.Limits.{recordWords};
+ghost use Rattle.wire.specs.Limits.{recordWords, noKey};
+ghost use Rattle.wire.specs.Fixed.{number};
+ghost use Rattle.wire.specs.Reading.{valueAt};
 ghost use Rattle.wire.specs.Table.{words};
+ghost use Rattle.wire.specs.declared.WireType.the-variants.{Varint, LengthDelimited};
 ghost use Rattle.run_read.specs.Packed.{packed, runRecord};
 ghost use Rattle.run_read.specs.Runs.{countOf, numberedOf, runCount, runValue, readRun, intoTable, Ready};
+ghost use Rattle.run_read.specs.Widths.{width, wideType, wideValue, fixedCount};
 use entry_answer::Gated;
 use entry_answer::RunCount;
 use entry_answer::RunValue;
+use wire::NO_KEY;
 use wire::RECORD_WORDS;
 use wire::Record;
 use wire::Refusal;
 use wire::Value;
 use wire::ValueFound;
+use wire::VarintFound;
 use wire::WireType;
 
-// How many values a run has, which is read whole.
-fn count_values(s: &[u8], wire: WireType) -> RunCount
-    ensures { λ r. ⌜ r ≡ countOf (packed (now (s .entry)) wire) ⌝ }
+// A number of a run, whose end is the slice's. Most are one byte or two.
+// INLINE: small enough to be folded into both loops, where the value reader would be a call whose answer comes back through memory.
+fn number_from(s: &[u8], at: usize) -> ValueFound
+    ensures { λ r. ⌜ r ≡ valueAt (now (s .entry)) (length (now (s .entry))) at Varint ⌝ }
+{
+    match varint_read::decode_varint(s, at) {
+        VarintFound::Got(v, next) => ValueFound::Got(Value::Varint(v), next),
+        VarintFound::Refused(r) => {
+            if s.len() < 9 {
+                return ValueFound::Refused(Refusal::Truncated);
+            }
+            if s.len() - 9 < at {
+                return ValueFound::Refused(Refusal::Truncated);
+            }
+            ValueFound::Refused(r)
+        }
+    }
+}
+
+// How many numbers a run has, which is read whole.
+fn count_numbers(s: &[u8]) -> RunCount
+    ensures { λ r. ⌜ r ≡ countOf (packed (now (s .entry)) Varint) ⌝ }
 {
     let mut p: usize = 0;
     let mut count: usize = 0;
     while p < s.len() {
-        match field_value::decode_value(s, p, s.len(), wire) {
+        match number_from(s, p) {
             ValueFound::Refused(r) => {
                 return RunCount::Refused(r);
             }
@@ -35,6 +60,49 @@ fn count_values(s: &[u8], wire: WireType) -> RunCount
         }
     }
     RunCount::Values(count)
+}
+
+// How many payloads.
+fn count_payloads(s: &[u8]) -> RunCount
+    ensures { λ r. ⌜ r ≡ countOf (packed (now (s .entry)) LengthDelimited) ⌝ }
+{
+    let mut p: usize = 0;
+    let mut count: usize = 0;
+    while p < s.len() {
+        match field_value::payload_at(s, p, s.len()) {
+            ValueFound::Refused(r) => {
+                return RunCount::Refused(r);
+            }
+            ValueFound::Got(_, next) => {
+                p = next;
+                count += 1;
+            }
+        }
+    }
+    RunCount::Values(count)
+}
+
+// How many values of n bytes a slice of so many is.
+fn count_fixed(len: usize, n: usize) -> RunCount
+    requires { ⌜ 1 ≤ n ⌝ }
+    ensures { λ r. ⌜ r ≡ fixedCount len n ⌝ }
+{
+    if len % n == 0 {
+        return RunCount::Values(len / n);
+    }
+    RunCount::Refused(Refusal::Truncated)
+}
+
+// How many values a run has, which is read whole. Of fixed values the slice's length tells it.
+fn count_values(s: &[u8], wire: WireType) -> RunCount
+    ensures { λ r. ⌜ r ≡ countOf (packed (now (s .entry)) wire) ⌝ }
+{
+    match wire {
+        WireType::Varint => count_numbers(s),
+        WireType::LengthDelimited => count_payloads(s),
+        WireType::ThirtyTwoBit => count_fixed(s.len(), 4),
+        WireType::SixtyFourBit => count_fixed(s.len(), 8),
+    }
 }
 
 // The value at a number, noted on the way; the run is read whole.
@@ -64,15 +132,16 @@ fn find_value(s: &[u8], wire: WireType, number: usize) -> RunValue
     RunValue::Absent
 }
 
-// A record of a run: all have tag 0.
+// A record of a run: all have tag 0 and no key.
 fn tagless(kind: u64, value: u64, length: u64) -> Record
-    ensures { λ r. ⌜ r ≡ record { tag = 0; kind = kind; value = value; length = length } ⌝ }
+    ensures { λ r. ⌜ r ≡ record { tag = 0; kind = kind; value = value; length = length; key = noKey } ⌝ }
 {
     Record {
         tag: 0,
         kind: kind,
         value: value,
         length: length,
+        key: NO_KEY,
     }
 }
 
@@ -97,17 +166,18 @@ fn store(table: &mut [u64], i: usize, r: Record)
     table[i + 1] = r.kind;
     table[i + 2] = r.value;
     table[i + 3] = r.length;
+    table[i + 4] = r.key;
 }
 
-// The records of a run that is known to be good and to have room.
-fn fill(s: &[u8], wire: WireType, table: &mut [u64])
-    requires { ⌜ Ready (now s) wire (now table) ⌝ }
-    ensures { λ _. ⌜ now (table .exit) ≡ intoTable (now (table .entry)) (packed (now (s .entry)) wire) ⌝ }
+// The records of a run of numbers that is known to be good and to have room.
+fn fill_numbers(s: &[u8], table: &mut [u64])
+    requires { ⌜ Ready (now s) Varint (now table) ⌝ }
+    ensures { λ _. ⌜ now (table .exit) ≡ intoTable (now (table .entry)) (packed (now (s .entry)) Varint) ⌝ }
 {
     let mut p: usize = 0;
     let mut i: usize = 0;
     while p < s.len() {
-        match field_value::decode_value(s, p, s.len(), wire) {
+        match number_from(s, p) {
             ValueFound::Refused(_) => {
                 return;
             }
@@ -117,6 +187,82 @@ fn fill(s: &[u8], wire: WireType, table: &mut [u64])
                 i += RECORD_WORDS;
             }
         }
+    }
+}
+
+// Those of payloads.
+fn fill_payloads(s: &[u8], table: &mut [u64])
+    requires { ⌜ Ready (now s) LengthDelimited (now table) ⌝ }
+    ensures { λ _. ⌜ now (table .exit) ≡ intoTable (now (table .entry)) (packed (now (s .entry)) LengthDelimited) ⌝ }
+{
+    let mut p: usize = 0;
+    let mut i: usize = 0;
+    while p < s.len() {
+        match field_value::payload_at(s, p, s.len()) {
+            ValueFound::Refused(_) => {
+                return;
+            }
+            ValueFound::Got(v, next) => {
+                store(table, i, run_record(v));
+                p = next;
+                i += RECORD_WORDS;
+            }
+        }
+    }
+}
+
+fn four(s: &[u8], at: usize) -> u64
+    requires { ⌜ at + 4 ≤ length (now s) ⌝ }
+    ensures { λ r. ⌜ (r ≡ number (take 4 (drop at (now (s .entry))))) × (r < 2 ^ 32) ⌝ }
+{
+    field_value::four_bytes(s[at], s[at + 1], s[at + 2], s[at + 3])
+}
+
+// The record of the four or eight bytes at a place.
+fn fixed_record(s: &[u8], at: usize, wide: bool) -> Record
+    requires { ⌜ at + width wide ≤ length (now s) ⌝ }
+    ensures { λ r. ⌜ r ≡ runRecord (wideValue wide (now (s .entry)) at) ⌝ }
+{
+    let low = four(s, at);
+    if wide {
+        let high = four(s, at + 4);
+        return tagless(3, low + high * 0x1_0000_0000, 8);
+    }
+    tagless(2, low, 4)
+}
+
+fn width_of(wide: bool) -> usize
+    ensures { λ n. ⌜ n ≡ width wide ⌝ }
+{
+    if wide { 8 } else { 4 }
+}
+
+// The records of fixed values: no byte is tested.
+// INLINE: called with both widths, and folded in for each: the compiler then stores several records at a time.
+fn fill_fixed(s: &[u8], wide: bool, table: &mut [u64])
+    requires { ⌜ Ready (now s) (wideType wide) (now table) ⌝ }
+    ensures { λ _. ⌜ now (table .exit) ≡ intoTable (now (table .entry)) (packed (now (s .entry)) (wideType wide)) ⌝ }
+{
+    let n = width_of(wide);
+    let mut p: usize = 0;
+    let mut i: usize = 0;
+    while p < s.len() {
+        store(table, i, fixed_record(s, p, wide));
+        p += n;
+        i += RECORD_WORDS;
+    }
+}
+
+// The records of a run that is known to be good and to have room.
+fn fill(s: &[u8], wire: WireType, table: &mut [u64])
+    requires { ⌜ Ready (now s) wire (now table) ⌝ }
+    ensures { λ _. ⌜ now (table .exit) ≡ intoTable (now (table .entry)) (packed (now (s .entry)) wire) ⌝ }
+{
+    match wire {
+        WireType::Varint => fill_numbers(s, table),
+        WireType::LengthDelimited => fill_payloads(s, table),
+        WireType::ThirtyTwoBit => fill_fixed(s, false, table),
+        WireType::SixtyFourBit => fill_fixed(s, true, table),
     }
 }
 

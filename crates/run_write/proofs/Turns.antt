@@ -1,11 +1,15 @@
 -- One record weighed, and the loops over records: where each stands, and what a turn does.
-use Prim.Native.Nat.{ℕ, zero, suc, _+_, _-_, _*_, _≤_, _<_}
+use Prim.Native.Nat.{ℕ, zero, suc, _+_, _-_, _*_, _/_, _≤_, _<_}
 use mathlib.Core.Path.{_≡_, refl, ap, _∙_, sym}
 use mathlib.Core.Bool.{Bool, true, false}
-use mathlib.Core.List.{List}
+use mathlib.Core.List.{List, _++_}
 use native.Mathlib.Omega.{arith}
 use native.Mathlib.Numerals.{add-one}
-use lib.ListN.{length, length-append}
+use lib.ListN.{length, length-append, getD}
+use lib.Seq.{sets}
+use Rattle.wire.specs.Fixed.{fixed}
+use Rattle.wire.specs.Limits.{messageLimit, recordWords}
+use Rattle.wire.specs.Numbers.{kindOf}
 use Rattle.wire.specs.Varint.{encode}
 use Rattle.wire.specs.VarintLength.{length-four}
 use Rattle.wire.specs.Table.{room, recordAt, good}
@@ -15,61 +19,33 @@ use Rattle.wire.specs.declared.Refusal.the-variants.{TooLong, BadRecord}
 use Rattle.wire.specs.declared.Weight.{Weight}
 use Rattle.wire.specs.declared.Weight.the-variants as weight
 use Rattle.wire.specs.declared.Weighed.the-variants as weighed
-use Rattle.write_record.specs.Records.{Judged, Fine, Bad, judge, AllFine, First, valueBytes, valueSize, recordSize}
-use Rattle.write_record.specs.Records as records
-use Rattle.write_record.specs.RecordLaws.{Sound, good-sound, judge-bad, judge-good, judge-fine, record-size}
-use Rattle.write_record.specs.RecordLaws as recordLaws
+use Rattle.write_record.specs.Records.{Judged, Fine, Bad, AllFine, First, valueBytes, valueSize, recordSize}
+use Rattle.write_record.specs.RecordLaws.{Sound, good-sound, record-size}
 use Rattle.write_record.specs.Taken.{recordIn, record-there}
 use Rattle.write_message.specs.Writing.{spent}
-use Rattle.write_message.proofs.Puts.{byte-fits, whole-size}
-use Rattle.place.specs.Spans.{Spans, spans-none, spans-behind, spans-length}
+use Rattle.write_message.proofs.Puts.{whole-size}
+use Rattle.place.specs.Spans.{Spans, spans-as, spans-none, spans-behind, spans-length}
+use Rattle.run_read.specs.Widths.{width, wideType}
 use Rattle.run_write.specs.RunPlan.{runJudge, runWeigh, runTested, runChecked, runBytes}
 use Rattle.run_write.specs.RunLaws.{fine-run, weigh-run, weigh-not, weighed-bad, weighed-bytes, first-stays, checked-long, checked-count, checked-tests}
 use Rattle.run_write.specs.RunLaws.{Ready, ready-at, bytes-last, bytes-cut}
 
--- ---- one record: weighed behind tag 0, it takes a byte more for its key
+-- ---- one record
 
--- behind tag 0 only a record that is not good is refused
-bad-behind : (n : ℕ) (r : Record) (why : Refusal) → judge n 0 r ≡ Bad why → (good n r ≡ false) × (why ≡ BadRecord)
-bad-behind n r why e = go (good n r) refl
-  where
-    go : (g : Bool) → good n r ≡ g → (good n r ≡ false) × (why ≡ BadRecord)
-    go true g = let h = sym (judge-good n 0 r g (omega arith)) ∙ e in let z : _≡_ {A = ℕ} 0 1 = cc in absurd (omega arith)
-    go false g = let h : Bad BadRecord ≡ Bad why = sym (judge-bad n 0 r g) ∙ e in (g, cc)
+-- the size of a value, by its kind
+pub size-one : (k v l : ℕ) → (k ≡ 0 → ⊥) → k < 2 → length (encode l) + l ≡ valueSize k v l
+size-one zero v l e h = absurd (e refl)
+size-one (suc zero) v l e h = refl
+size-one (suc (suc k)) v l e h = absurd (omega (arith, h))
 
--- a key of tag 0 behind tag 0
-size-behind : (r : Record) → r .tag ≡ 0 → recordSize 0 r ≡ 1 + valueSize (r .kind) (r .value) (r .length)
-unfolding recordSize
-size-behind r e =
-    let z : 4 * (r .tag - 0) ≡ 0 = omega (arith, e) in
-    ap (λ (v : ℕ). length (encode v) + valueSize (r .kind) (r .value) (r .length)) z
-    ∙ ap (λ (j : ℕ). j + valueSize (r .kind) (r .value) (r .length)) (byte-fits 0 (omega arith))
-
-module _ (n k : ℕ) (r : Record) {x : Weight} (t : r .tag ≡ 0) (e : r .kind ≡ k) (w : x ≡ records.weigh n 0 r) where
-  pub one-bad : (why : Refusal) → x ≡ weight.Bad why → weight.Bad why ≡ runWeigh n k r
-  one-bad why f =
-      let b = bad-behind n r why (recordLaws.weighed-bad n 0 r why w f) in
-      ap weight.Bad (b .1) ∙ sym (weigh-not n k r (λ g a c. no (sym g ∙ b .0)))
-    where
-      no : _≡_ {A = Bool} true false → ⊥
-      no q = let z : _≡_ {A = ℕ} 0 1 = cc in omega arith
-
-  one-weighed : (m : ℕ) → x ≡ weight.Bytes m → (good n r ≡ true) × (m ≡ 1 + valueSize (r .kind) (r .value) (r .length))
-  one-weighed m f =
-      let b = recordLaws.weighed-bytes n 0 r m w f in
-      (judge-fine n 0 r (b .0) .0, b .1 ∙ size-behind r t)
-
-  pub one-some : (m : ℕ) → x ≡ weight.Bytes m → 1 ≤ m
-  one-some m f = omega (arith, one-weighed m f .1)
-
-  pub one-bytes : (m : ℕ) → x ≡ weight.Bytes m → weight.Bytes (m - 1) ≡ runWeigh n k r
-  one-bytes m f =
-      let b = one-weighed m f in
-      let z : m - 1 ≡ valueSize (r .kind) (r .value) (r .length) = omega (arith, b .1) in
-      ap weight.Bytes z ∙ sym (weigh-run n k r (b .0) e t)
+pub size-eight : (k v l : ℕ) → 2 ≤ k → (k ≡ 2 → ⊥) → 8 ≡ valueSize k v l
+size-eight zero v l h e = absurd (omega (arith, h))
+size-eight (suc zero) v l h e = absurd (omega (arith, h))
+size-eight (suc (suc zero)) v l h e = absurd (e refl)
+size-eight (suc (suc (suc k))) v l h e = refl
 
 -- how many bytes the value of a good record is
-value-size : (s : List ℕ) (r : Record) → Sound (length s) r → length (valueBytes s r) ≡ valueSize (r .kind) (r .value) (r .length)
+pub value-size : (s : List ℕ) (r : Record) → Sound (length s) r → length (valueBytes s r) ≡ valueSize (r .kind) (r .value) (r .length)
 unfolding recordSize
 value-size s r g = omega (arith, record-size s 0 r g, whole-size s 0 r g, length-four (r .tag - 0) (r .kind) (g .kind))
 
@@ -162,3 +138,112 @@ module _ {b s t : List ℕ} {c k : ℕ} (y : Ready s t c k) (z : length (runByte
 
 pub forward-done : {b s t : List ℕ} {c : ℕ} {buf : List ℕ} {at i : ℕ} → Forward b s t c buf at i → c ≤ i → Spans b 0 at (runBytes s t c) buf
 forward-done {b} {s} {t} {c} {buf} {at} {i} w h = let z : i ≡ c = omega (arith, w .index) in rw z at (w .put)
+
+-- ---- fixed values: i records are fine, and the next one's words stand from word at on
+
+abbrev pub wordsAt : List ℕ → ℕ → Record
+wordsAt t at = record { tag = getD t at 0; kind = getD t (at + 1) 0; value = getD t (at + 2) 0; length = getD t (at + 3) 0; key = getD t (at + 4) 0 }
+
+pub record Testing (s t : List ℕ) (c : ℕ) (b : Bool) (at : ℕ) : Type 0 where
+  pub i : ℕ
+  pub place : at ≡ recordWords * i
+  pub weighing : Weighing messageLimit s t c (kindOf (wideType b)) (messageLimit + 1 - width b * i) i
+
+pub test-start : (b : Bool) (s t : List ℕ) (c : ℕ) → length s ≤ messageLimit → c ≤ room t → Testing s t c b 0
+test-start b s t c g h =
+    record {
+      i = 0;
+      place = omega arith;
+      weighing = record { short = g; count = h; index = omega arith; fine = refl; held = none b };
+    }
+  where
+    none : (d : Bool) → messageLimit + 1 - width d * 0 ≡ messageLimit + 1 - 0
+    none true = omega arith
+    none false = omega arith
+
+-- what a value takes, and leaves
+size-wide : (b : Bool) (k v l : ℕ) → k ≡ kindOf (wideType b) → valueSize k v l ≡ width b
+size-wide true k v l e = rw e
+size-wide false k v l e = rw e
+
+less : (b : Bool) (i : ℕ) → messageLimit + 1 - width b * (i + 1) ≡ messageLimit + 1 - width b * i - width b
+less true i = omega arith
+less false i = omega arith
+
+module _ {s t : List ℕ} {c : ℕ} {b : Bool} {at : ℕ} (f : Testing s t c b at) where
+  module _ (h : at < recordWords * c) where
+    before : f .i < c
+    before = omega (arith, f .place)
+
+    pub test-inside : at + recordWords ≤ length t
+    test-inside = omega (arith, f .place, before, f .weighing .count)
+
+    there : wordsAt t at ≡ recordAt t (f .i)
+    unfolding recordAt
+    there = rw (f .place)
+
+    -- one that is none of the run
+    pub test-bad : (good (length s) (wordsAt t at) ≡ true → getD t (at + 1) 0 ≡ kindOf (wideType b) → getD t at 0 ≡ 0 → ⊥)
+        → weighed.First BadRecord (at / recordWords)
+        ≡ spent (messageLimit + 1) (length (runBytes s t c)) (runChecked messageLimit s t c (kindOf (wideType b)))
+    test-bad n =
+        let k = kindOf (wideType b) in
+        let r = wordsAt t at in
+        let e : at / recordWords ≡ f .i = omega (arith, f .place) in
+        let q : r ≡ recordIn t (f .i) = there ∙ sym (record-there t (f .i) (omega (arith, before, f .weighing .count))) in
+        ap (weighed.First BadRecord) e
+        ∙ turn-bad (f .weighing) {r = r} {x = runWeigh (length s) k r} before q refl BadRecord (weigh-not (length s) k r n)
+
+    -- one more
+    pub test-more : good (length s) (wordsAt t at) ≡ true → getD t (at + 1) 0 ≡ kindOf (wideType b) → getD t at 0 ≡ 0 → Testing s t c b (at + recordWords)
+    test-more g d z =
+        let k = kindOf (wideType b) in
+        let r = wordsAt t at in
+        let q : r ≡ recordIn t (f .i) = there ∙ sym (record-there t (f .i) (omega (arith, before, f .weighing .count))) in
+        let m = size-wide b (r .kind) (r .value) (r .length) d in
+        let w = weigh-run (length s) k r g d z ∙ ap weight.Bytes m in
+        record {
+          i = f .i + 1;
+          place = omega (arith, f .place);
+          weighing = turn-more (f .weighing) {r = r} {x = runWeigh (length s) k r} before q refl (width b) w (less b (f .i));
+        }
+
+  pub test-done : recordWords * c ≤ at → {left : ℕ} → left ≡ messageLimit + 1 - width b * c
+      → weighed.Left left ≡ spent (messageLimit + 1) (length (runBytes s t c)) (runChecked messageLimit s t c (kindOf (wideType b)))
+  test-done h e =
+      let n : f .i ≡ c = omega (arith, f .place, f .weighing .index) in
+      ap weighed.Left (e ∙ ap (λ (j : ℕ). messageLimit + 1 - width b * j) (sym n)) ∙ weigh-done (f .weighing) (omega (arith, n))
+
+-- the budget, by the count
+module _ (c : ℕ) {n : ℕ} where
+  pub all-spent : (b : Bool) → n ≡ width b → messageLimit / n < c → 0 ≡ messageLimit + 1 - width b * c
+  all-spent true e h = let g : messageLimit / 8 < c = rw e at h in omega (arith, g)
+  all-spent false e h = let g : messageLimit / 4 < c = rw e at h in omega (arith, g)
+
+  pub not-spent : (b : Bool) → n ≡ width b → c ≤ messageLimit / n → n * c ≤ messageLimit
+  not-spent true e h = let g : c ≤ messageLimit / 8 = rw e at h in rw e (omega (arith, g))
+  not-spent false e h = let g : c ≤ messageLimit / 4 = rw e at h in rw e (omega (arith, g))
+
+-- ---- a fixed value's bytes, four at a time
+
+size-four : (k v l : ℕ) → 2 ≤ k → 4 ≤ valueSize k v l
+size-four zero v l h = absurd (omega (arith, h))
+size-four (suc zero) v l h = absurd (omega (arith, h))
+size-four (suc (suc zero)) v l h = omega arith
+size-four (suc (suc (suc k))) v l h = omega arith
+
+pub four-inside : (s : List ℕ) (r : Record) → Sound (length s) r → 2 ≤ r .kind → 4 ≤ length (valueBytes s r)
+four-inside s r g h = omega (arith, value-size s r g, size-four (r .kind) (r .value) (r .length) h)
+
+halves : (v : ℕ) → fixed 8 v ≡ fixed 4 v ++ fixed 4 (v / 0x1_0000_0000)
+halves v = let e : v / 0x1_0000_0000 ≡ v / 256 / 256 / 256 / 256 = omega arith in rw e
+
+pub spans-four : {b c : List ℕ} {p : ℕ} (v : ℕ) → c ≡ sets b p (fixed 4 v) → Spans b p (p + 4) (fixed 4 v) c
+spans-four v e = record { reach = refl; is = e }
+
+pub spans-eight : {b c d : List ℕ} {p : ℕ} (v : ℕ) → c ≡ sets b p (fixed 4 v) → d ≡ sets c (p + 4) (fixed 4 (v / 0x1_0000_0000))
+    → Spans b p (p + 8) (fixed 8 v) d
+spans-eight {b} {c} {d} {p} v e f =
+    let z : p + 4 + 4 ≡ p + 8 = omega arith in
+    let w : Spans b p (p + 4 + 4) (fixed 4 v ++ fixed 4 (v / 0x1_0000_0000)) d = spans-behind (spans-four v e) (spans-four (v / 0x1_0000_0000) f) in
+    spans-as (halves v) (rw z at w)

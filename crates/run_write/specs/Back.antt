@@ -5,20 +5,20 @@ use mathlib.Core.Bool.{true}
 use mathlib.Core.List.{List, [], _∷_, _++_}
 use native.Mathlib.Omega.{arith}
 use lib.ListN.{length, drop, length-append, length-drop}
-use Rattle.wire.specs.Limits.{recordWords}
+use Rattle.wire.specs.Limits.{recordWords, noKey}
 use Rattle.wire.specs.Numbers.{kindOf}
 use Rattle.wire.specs.VarintLaws.{Bytes}
 use Rattle.wire.specs.Written.{contentKind}
 use Rattle.wire.specs.Places.{shown}
 use Rattle.wire.specs.Reading.{valueAt}
 use Rattle.wire.specs.ReadingLaws.{value-moves, value-took}
-use Rattle.wire.specs.Table.{kindWord, room, recordAt, good, record-behind, record-first}
+use Rattle.wire.specs.Table.{kindWord, room, recordAt, good, key-none, head-key, record-behind, record-first}
 use Rattle.wire.specs.declared.WireType.{WireType}
 use Rattle.wire.specs.declared.Value.{Value}
 use Rattle.wire.specs.declared.Value.the-variants as val
 use Rattle.wire.specs.declared.ValueFound.the-variants as valueFound
 use Rattle.write_record.specs.Records.{Fine, AllFine}
-use Rattle.write_record.specs.RecordLaws.{good-tag}
+use Rattle.write_record.specs.RecordLaws.{good-head}
 use Rattle.write_message.specs.Writing.{Writes}
 use Rattle.write_message.specs.ReadBack.{value-fits}
 use Rattle.run_read.specs.Packed.{Values, packedFrom, packed, Stands, none, some, stands, runWritten, contents, runRecord, runRecords, runFilled}
@@ -39,7 +39,7 @@ value-kept : (s : List ℕ) → Bytes s → (p : ℕ) (w : WireType) (v : Value)
     → runJudge (length s) (kindOf w) (runRecord v) ≡ Fine
 value-kept s b p w v q h =
     judge-run (length s) (kindOf w) (runRecord v)
-    (good-tag (length s) (runRecord v) (omega arith) ∙ value-fits s b (length s) p w v q h)
+    (good-head (length s) (runRecord v) (head-key (length s) 0 noKey (omega arith) ∙ key-none (length s) noKey refl) ∙ value-fits s b (length s) p w v q h)
     (sym (kind-shown s v) ∙ value-took s b (length s) p w v q h .2)
     refl
 

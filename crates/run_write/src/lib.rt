@@ -1,14 +1,19 @@
 // Packed runs, written: records tested and measured, then their values put one behind the other, without keys.
 // From src/encoding/opaque.rs (`packed`) of bilrost.
 ghost use mathlib.Core.Path.{_≡_};
-ghost use Prim.Native.Nat.{_+_, _-_, _≤_};
+ghost use Prim.Native.Nat.{_+_, _-_, _≤_, _<_, _^_};
 ghost use lib.ListN.{length};
+ghost use lib.Seq.{sets};
 ghost use Rattle.place.specs.Spans.{Spans};
+ghost use Rattle.wire.specs.Fixed.{fixed};
 ghost use Rattle.wire.specs.Limits.{messageLimit};
+ghost use Rattle.wire.specs.Numbers.{kindOf};
+ghost use Rattle.wire.specs.Table.{room};
 ghost use Rattle.wire.specs.Varint.{encode};
-ghost use Rattle.write_record.specs.Records.{valueBytes};
+ghost use Rattle.write_record.specs.Records.{valueBytes, valueSize};
 ghost use Rattle.write_record.specs.RecordLaws.{Sound};
 ghost use Rattle.write_message.specs.Writing.{fitted, spent, Writing};
+ghost use Rattle.run_read.specs.Widths.{width, wideType};
 ghost use Rattle.run_write.specs.RunPlan.{runWeigh, runChecked, runBytes, runPlan, writeRun};
 ghost use Rattle.run_write.specs.RunLaws.{Ready};
 use wire::MESSAGE_LIMIT;
@@ -22,7 +27,25 @@ use wire::Written;
 
 // ---- measured
 
-// What is said of one record, over a source of size bytes: its value's bytes, or that it is none of the run. Behind tag 0 a key of tag 0 is one byte.
+// How many bytes a value of a kind is.
+fn value_len(kind: u64, value: u64, length: u64) -> usize
+    requires { ⌜ (kind ≡ 1 → length < 2 ^ 32) ⌝ }
+    ensures { λ n. ⌜ n ≡ valueSize kind value length ⌝ }
+{
+    if kind < 2 {
+        if kind == 0 {
+            return varint_write::encoded_len_varint(value);
+        }
+        return varint_write::encoded_len_varint(length) + length as usize;
+    }
+    if kind == 2 {
+        return 4;
+    }
+    8
+}
+
+// What is said of one record, over a source of size bytes: its value's bytes, or that it is none of the run.
+// INLINE: it asks is_good and not weigh_record, which with a second caller would be a call for every writer.
 fn weigh_one(size: u32, kind: u64, r: Record) -> Weight
     ensures { λ w. ⌜ w ≡ runWeigh size kind r ⌝ }
 {
@@ -32,13 +55,10 @@ fn weigh_one(size: u32, kind: u64, r: Record) -> Weight
     if r.kind != kind {
         return Weight::Bad(Refusal::BadRecord);
     }
-    match write_record::weigh_record(size, 0, r) {
-        Weight::Bad(why) => Weight::Bad(why),
-        Weight::Bytes(n) => {
-            let bytes = n - 1;
-            Weight::Bytes(bytes)
-        }
+    if write_record::is_good(size, r) {
+        return Weight::Bytes(value_len(r.kind, r.value, r.length));
     }
+    Weight::Bad(Refusal::BadRecord)
 }
 
 // What is left of a budget.
@@ -49,6 +69,59 @@ fn spend(left: usize, n: usize) -> usize
         return left - n;
     }
     0
+}
+
+fn width_of(wide: bool) -> usize
+    ensures { λ n. ⌜ n ≡ width wide ⌝ }
+{
+    if wide { 8 } else { 4 }
+}
+
+fn kind_of(wide: bool) -> u64
+    ensures { λ k. ⌜ k ≡ kindOf (wideType wide) ⌝ }
+{
+    if wide { 3 } else { 2 }
+}
+
+// The tests of fixed values; what they leave of the budget is told by the count.
+// INLINE: called with both widths, and folded in for each. It goes by words, so that a turn counts one number; and it asks is_good, since with another caller
+// weigh_one would be a call.
+fn weigh_fixed(source: &[u8], table: &[u64], count: usize, wide: bool) -> Weighed
+    requires { ⌜ (length (now source) ≤ messageLimit) × (count ≤ room (now table)) ⌝ }
+    ensures { λ r. ⌜
+        r
+        ≡ spent (messageLimit + 1) (length (runBytes (now (source .entry)) (now (table .entry)) count))
+        (runChecked messageLimit (now (source .entry)) (now (table .entry)) count (kindOf (wideType wide)))
+        ⌝ }
+{
+    let size = source.len() as u32;
+    let kind = kind_of(wide);
+    let n = width_of(wide);
+    let end = RECORD_WORDS * count;
+    let mut at: usize = 0;
+    while at < end {
+        let r = Record {
+            tag: table[at],
+            kind: table[at + 1],
+            value: table[at + 2],
+            length: table[at + 3],
+            key: table[at + 4],
+        };
+        if 0 < r.tag {
+            return Weighed::First(Refusal::BadRecord, at / RECORD_WORDS);
+        }
+        if kind != r.kind {
+            return Weighed::First(Refusal::BadRecord, at / RECORD_WORDS);
+        }
+        if !write_record::is_good(size, r) {
+            return Weighed::First(Refusal::BadRecord, at / RECORD_WORDS);
+        }
+        at += RECORD_WORDS;
+    }
+    if MESSAGE_LIMIT / n < count {
+        return Weighed::Left(0);
+    }
+    Weighed::Left(MESSAGE_LIMIT + 1 - n * count)
 }
 
 // All tests but that of the output, and what the values leave of a budget of one byte more than the limit. It falls to 0 and stays there, so that nothing
@@ -66,6 +139,12 @@ fn weigh(source: &[u8], table: &[u64], count: usize, kind: u64) -> Weighed
     let records = table.len() / RECORD_WORDS;
     if records < count {
         return Weighed::First(Refusal::BadRecord, records);
+    }
+    if kind == 2 {
+        return weigh_fixed(source, table, count, false);
+    }
+    if kind == 3 {
+        return weigh_fixed(source, table, count, true);
     }
     let size = source.len() as u32;
     let mut left = MESSAGE_LIMIT + 1;
@@ -113,6 +192,20 @@ fn put_number(buf: &mut [u8], at: usize, v: u64) -> usize
     varint_write::put_varint(buf, at, v)
 }
 
+// The four low bytes of a number, lowest first.
+fn put_four(buf: &mut [u8], at: usize, v: u64)
+    requires { ⌜ at + 4 ≤ length (now buf) ⌝ }
+    ensures { λ _. ⌜ now (buf .exit) ≡ sets (now (buf .entry)) at (fixed 4 v) ⌝ }
+{
+    let a = v / 256;
+    let b = a / 256;
+    let c = b / 256;
+    buf[at] = (v % 256) as u8;
+    buf[at + 1] = (a % 256) as u8;
+    buf[at + 2] = (b % 256) as u8;
+    buf[at + 3] = (c % 256) as u8;
+}
+
 fn put_value(buf: &mut [u8], at: usize, source: &[u8], kind: u64, r: Record) -> usize
     requires { ⌜ Sound (length (now source)) r × (r .kind ≡ kind) × (at + length (valueBytes (now source) r) ≤ length (now buf)) ⌝ }
     ensures { λ n. ⌜ Spans (now (buf .entry)) at n (valueBytes (now (source .entry)) r) (now (buf .exit)) ⌝ }
@@ -124,10 +217,12 @@ fn put_value(buf: &mut [u8], at: usize, source: &[u8], kind: u64, r: Record) -> 
         let next = put_number(buf, at, r.length);
         return place::put_part(buf, next, source, r.value as usize, r.length as usize);
     }
+    put_four(buf, at, r.value);
     if kind == 2 {
-        return place::put_fixed(buf, at, 4, r.value);
+        return at + 4;
     }
-    place::put_fixed(buf, at, 8, r.value)
+    put_four(buf, at + 4, r.value / 0x1_0000_0000);
+    at + 8
 }
 
 fn put_all(buf: &mut [u8], source: &[u8], table: &[u64], count: usize, kind: u64) -> usize

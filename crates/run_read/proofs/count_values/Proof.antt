@@ -1,81 +1,70 @@
--- Each turn counts a value.
-use mathlib.Core.Path.{_≡_, _∙_, sym}
-use native.Mathlib.Omega.{arith}
+-- Each type by its own loop, or by the length.
+use mathlib.Core.Path.{_≡_, _∙_, ap, sym}
+use Rattle.wire.specs.declared.WireType.{WireType}
+use Rattle.run_read.specs.Packed.{packed}
+use Rattle.run_read.specs.Runs.{countOf}
+use Rattle.run_read.specs.Widths.{fours-counted, eights-counted}
 use borrow.Author.Needs.{needs}
-use Prim.Native.Nat.{_-_, _≤_, _<_}
-use lib.ListN.{length}
-use Rattle.wire.specs.Reading.{valueAt}
-use Rattle.wire.specs.ReadingLaws.{value-moves}
-use Rattle.wire.specs.declared.ValueFound.the-variants as valueFound
-use Rattle.run_read.proofs.Going.{Counting, count-start, count-end, count-stops, count-on}
 use Rattle.run_read.proofs.count_values.Statement.{statement}
 use Rattle.run_read.proofs.count_values.Tie as tie
 
-abbrev Inv-loop : tie.InvT-loop
-Inv-loop s wire p₀ count₀ p count = Counting s wire p count
+enum-told : tie.Need-enum-told
+enum-told c = search needs
 
-abbrev μ-loop : tie.MeasureT-loop
-μ-loop s wire p₀ count₀ p count = length s - p
+count-numbers-requires : tie.Need-count-numbers-requires
+count-numbers-requires c κs = search needs
 
-loop-holds : tie.Need-loop-holds Inv-loop μ-loop
-loop-holds c = count-start _ _
+enum-told-2 : tie.Need-enum-told-2
+enum-told-2 c = search needs
 
-decode-value-requires : tie.Need-decode-value-requires Inv-loop μ-loop
-decode-value-requires c κs = search needs
+count-payloads-requires : tie.Need-count-payloads-requires
+count-payloads-requires c κs = search needs
 
-enum-known-r : tie.Need-enum-known-r Inv-loop μ-loop
-enum-known-r c = search needs
+enum-told-3 : tie.Need-enum-told-3
+enum-told-3 c = search needs
 
-returns : tie.Need-returns Inv-loop μ-loop
+count-fixed-requires : tie.Need-count-fixed-requires
+count-fixed-requires c κs = search needs
+
+enum-told-4 : tie.Need-enum-told-4
+enum-told-4 c = search needs
+
+count-fixed-requires-2 : tie.Need-count-fixed-requires-2
+count-fixed-requires-2 c κs = search needs
+
+returns : tie.Need-returns
 returns c =
-    let t = c .before .before .before .before in
-    count-stops (t .before .loop .inv) _ (t .loop-test .taken) (sym (c .before .before .before .decode-value .ensures) ∙ c .before .r .given .1)
+    let a = c .before .before .before .before .args in
+    c .count-numbers .ensures ∙ ap (λ (w : WireType). countOf (packed (a .s .now) w)) (sym (c .before .enum-told .given .1))
 
-enum-known-next : tie.Need-enum-known-next Inv-loop μ-loop
-enum-known-next c = search needs
+returns-2 : tie.Need-returns-2
+returns-2 c =
+    let a = c .before .before .before .before .args in
+    c .count-payloads .ensures ∙ ap (λ (w : WireType). countOf (packed (a .s .now) w)) (sym (c .before .enum-told2 .given .1))
 
--- the value that was read
-found : (c : tie.After-next Inv-loop μ-loop) → let l = c .before .before .before .before in let a = l .before .before .args in
-    valueAt (a .s .now) (length (a .s .now)) (l .loop .p) (a .wire) ≡ valueFound.Got (c .next .given .0 .0) (c .next .given .0 .1 .0)
-found c = sym (c .before .before .decode-value .ensures) ∙ c .next .given .1
+returns-3 : tie.Need-returns-3
+returns-3 c =
+    let a = c .before .before .before .before .args in
+    c .count-fixed .ensures ∙ fours-counted (a .s .now) ∙ ap (λ (w : WireType). countOf (packed (a .s .now) w)) (sym (c .before .enum-told3 .given .1))
 
--- and where it goes
-moves : (c : tie.After-next Inv-loop μ-loop) → let l = c .before .before .before .before in let a = l .before .before .args in
-    (l .loop .p < c .next .given .0 .1 .0) × (c .next .given .0 .1 .0 ≤ length (a .s .now))
-moves c =
-    let l = c .before .before .before .before in
-    let a = l .before .before .args in
-    value-moves (a .s .now) (length (a .s .now)) (l .loop .p) (a .wire) _ _ (found c)
-
-add-count : tie.Need-add-count Inv-loop μ-loop
-add-count c =
-    let t = c .before .before .before .before in
-    let m = moves (c .before) in
-    omega (arith, m .0, m .1, t .before .loop .inv .few, t .before .before .before .good)
-
-loop-less : tie.Need-loop-less Inv-loop μ-loop
-loop-less c = let m = moves (c .before) in omega (arith, m .0, m .1)
-
-loop-again : tie.Need-loop-again Inv-loop μ-loop
-loop-again c =
-    let t = c .before .before .before .before in
-    count-on (t .before .loop .inv) _ _ (t .loop-test .taken) (found (c .before))
-
-returns-2 : tie.Need-returns-2 Inv-loop μ-loop
-returns-2 c = count-end (c .before .loop .inv) (c .loop-test .left)
+returns-4 : tie.Need-returns-4
+returns-4 c =
+    let a = c .before .before .before .before .args in
+    c .count-fixed2 .ensures ∙ eights-counted (a .s .now) ∙ ap (λ (w : WireType). countOf (packed (a .s .now) w)) (sym (c .before .enum-told4 .given .1))
 
 pub count-values-spec : {M : Type 1} → statement M
 count-values-spec =
     tie.close
     (tie.spec
-    Inv-loop
-    μ-loop
-    loop-holds
-    decode-value-requires
-    enum-known-r
+    enum-told
+    count-numbers-requires
+    enum-told-2
+    count-payloads-requires
+    enum-told-3
+    count-fixed-requires
+    enum-told-4
+    count-fixed-requires-2
     returns
-    enum-known-next
-    add-count
-    loop-less
-    loop-again
-    returns-2)
+    returns-2
+    returns-3
+    returns-4)

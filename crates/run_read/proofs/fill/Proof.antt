@@ -1,108 +1,89 @@
--- Each turn writes a record.
-use mathlib.Core.Path.{_≡_, _∙_, refl, sym}
-use native.Mathlib.Omega.{arith}
-use borrow.Author.Needs.{needs}
-use Prim.Native.Nat.{_-_, _≤_, _<_}
-use lib.ListN.{length}
-use Rattle.wire.specs.Reading.{valueAt}
-use Rattle.wire.specs.ReadingLaws.{value-moves}
-use Rattle.wire.specs.declared.ValueFound.the-variants as valueFound
+-- Each type by its own loop.
+use mathlib.Core.Path.{_≡_, _∙_, ap, sym}
+use Rattle.wire.specs.declared.WireType.{WireType}
 use Rattle.run_read.specs.Packed.{packed}
 use Rattle.run_read.specs.Runs.{intoTable}
-use Rattle.run_read.proofs.Going.{Filling, fill-start, fill-end, fill-refused, fill-room, fill-on}
+use borrow.Author.Needs.{needs}
 use Rattle.run_read.proofs.fill.Statement.{statement}
 use Rattle.run_read.proofs.fill.Tie as tie
 
-abbrev Inv-loop : tie.InvT-loop
-Inv-loop s wire table₀ p₀ i₀ table p i = Filling s wire (intoTable table₀ (packed s wire)) p i table × (length table ≡ length table₀)
-
-abbrev μ-loop : tie.MeasureT-loop
-μ-loop s wire table₀ p₀ i₀ table p i = length s - p
-
-loop-holds : tie.Need-loop-holds Inv-loop μ-loop
-loop-holds c = (fill-start _ _ _ (c .before .before .pre), refl)
-
-decode-value-requires : tie.Need-decode-value-requires Inv-loop μ-loop
-decode-value-requires c κs = search needs
-
-enum-told : tie.Need-enum-told Inv-loop μ-loop
+enum-told : tie.Need-enum-told
 enum-told c = search needs
 
-same-length : tie.Need-same-length Inv-loop μ-loop
-same-length c = c .before .before .before .before .loop .inv .1
+fill-numbers-requires : tie.Need-fill-numbers-requires
+fill-numbers-requires c κs = rw (c .before .enum-told .given .1) at (c .before .before .before .before .before .pre)
 
-returns : tie.Need-returns Inv-loop μ-loop
+enum-told-2 : tie.Need-enum-told-2
+enum-told-2 c = search needs
+
+fill-payloads-requires : tie.Need-fill-payloads-requires
+fill-payloads-requires c κs = rw (c .before .enum-told2 .given .1) at (c .before .before .before .before .before .pre)
+
+enum-told-3 : tie.Need-enum-told-3
+enum-told-3 c = search needs
+
+fill-fixed-requires : tie.Need-fill-fixed-requires
+fill-fixed-requires c κs = rw (c .before .enum-told3 .given .1) at (c .before .before .before .before .before .pre)
+
+enum-told-4 : tie.Need-enum-told-4
+enum-told-4 c = search needs
+
+fill-fixed-requires-2 : tie.Need-fill-fixed-requires-2
+fill-fixed-requires-2 c κs = rw (c .before .enum-told4 .given .1) at (c .before .before .before .before .before .pre)
+
+same-length : tie.Need-same-length
+same-length c = search needs
+
+returns : tie.Need-returns
 returns c =
-    let t = c .before .before .before in
-    fill-refused (t .before .loop .inv .0) _ (t .loop-test .taken) (sym (c .before .before .decode-value .ensures) ∙ c .enum-told .given .1)
+    let a = c .before .before .before .before .before .before .before .before .args in
+    c .before .before .fill-numbers .ensures
+    ∙ ap (λ (w : WireType). intoTable (a .table .now) (packed (a .s .now) w)) (sym (c .before .before .before .before .enum-told .given .1))
 
-enum-known-v : tie.Need-enum-known-v Inv-loop μ-loop
-enum-known-v c = search needs
+same-length-2 : tie.Need-same-length-2
+same-length-2 c = search needs
 
-run-record-requires : tie.Need-run-record-requires Inv-loop μ-loop
-run-record-requires c κs = search needs
+returns-2 : tie.Need-returns-2
+returns-2 c =
+    let a = c .before .before .before .before .before .before .before .before .args in
+    c .before .before .fill-payloads .ensures
+    ∙ ap (λ (w : WireType). intoTable (a .table .now) (packed (a .s .now) w)) (sym (c .before .before .before .before .enum-told2 .given .1))
 
--- the value that was read
-found : (c : tie.After-v Inv-loop μ-loop) → let l = c .before .before .before .before in let a = l .before .before .before .args in
-    valueAt (a .s .now) (length (a .s .now)) (l .loop .p) (a .wire) ≡ valueFound.Got (c .v .given .0 .0) (c .v .given .0 .1 .0)
-found c = sym (c .before .before .decode-value .ensures) ∙ c .v .given .1
+same-length-3 : tie.Need-same-length-3
+same-length-3 c = search needs
 
--- and where it goes
-moves : (c : tie.After-v Inv-loop μ-loop) → let l = c .before .before .before .before in let a = l .before .before .before .args in
-    (l .loop .p < c .v .given .0 .1 .0) × (c .v .given .0 .1 .0 ≤ length (a .s .now))
-moves c =
-    let l = c .before .before .before .before in
-    let a = l .before .before .before .args in
-    value-moves (a .s .now) (length (a .s .now)) (l .loop .p) (a .wire) _ _ (found c)
+returns-3 : tie.Need-returns-3
+returns-3 c =
+    let a = c .before .before .before .before .before .before .before .before .args in
+    c .before .before .fill-fixed .ensures
+    ∙ ap (λ (w : WireType). intoTable (a .table .now) (packed (a .s .now) w)) (sym (c .before .before .before .before .enum-told3 .given .1))
 
-store-requires : tie.Need-store-requires Inv-loop μ-loop
-store-requires c κs =
-    let v = c .before .before .before in
-    let t = v .before .before .before in
-    fill-room (t .before .loop .inv .0) _ _ (t .loop-test .taken) (found v)
+same-length-4 : tie.Need-same-length-4
+same-length-4 c = search needs
 
-add-i : tie.Need-add-i Inv-loop μ-loop
-add-i c =
-    let v = c .before .before .before .before .before .before in
-    let t = v .before .before .before in
-    let l = t .before in
-    omega (arith, fill-room (l .loop .inv .0) _ _ (t .loop-test .taken) (found v), l .loop .inv .1, l .before .before .before .good)
-
-loop-less : tie.Need-loop-less Inv-loop μ-loop
-loop-less c =
-    let m = moves (c .before .before .before .before .before .before) in
-    omega (arith, m .0, m .1)
-
-loop-again : tie.Need-loop-again Inv-loop μ-loop
-loop-again c =
-    let r = c .before .before .before in
-    let v = r .before .before .before in
-    let t = v .before .before .before in
-    let f = fill-on (t .before .loop .inv .0) _ _ (t .loop-test .taken) (found v) _ _ (r .run-record .ensures) (c .before .before .store .ensures) in
-    (f .0, f .1 ∙ t .before .loop .inv .1)
-
-same-length-2 : tie.Need-same-length-2 Inv-loop μ-loop
-same-length-2 c = c .before .loop .inv .1
-
-returns-2 : tie.Need-returns-2 Inv-loop μ-loop
-returns-2 c = fill-end (c .before .loop .inv .0) (c .loop-test .left)
+returns-4 : tie.Need-returns-4
+returns-4 c =
+    let a = c .before .before .before .before .before .before .before .before .args in
+    c .before .before .fill-fixed2 .ensures
+    ∙ ap (λ (w : WireType). intoTable (a .table .now) (packed (a .s .now) w)) (sym (c .before .before .before .before .enum-told4 .given .1))
 
 pub fill-spec : {M : Type 1} → statement M
 fill-spec =
     tie.close
     (tie.spec
-    Inv-loop
-    μ-loop
-    loop-holds
-    decode-value-requires
     enum-told
+    fill-numbers-requires
+    enum-told-2
+    fill-payloads-requires
+    enum-told-3
+    fill-fixed-requires
+    enum-told-4
+    fill-fixed-requires-2
     same-length
     returns
-    enum-known-v
-    run-record-requires
-    store-requires
-    add-i
-    loop-less
-    loop-again
     same-length-2
-    returns-2)
+    returns-2
+    same-length-3
+    returns-3
+    same-length-4
+    returns-4)

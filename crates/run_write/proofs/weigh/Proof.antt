@@ -18,6 +18,18 @@ returns c = source-long _ _ _ _ _ (c .if1 .taken)
 returns-2 : tie.Need-returns-2 Inv-loop μ-loop
 returns-2 c = count-above _ _ _ _ _ (c .before .if1 .left) (c .if2 .taken)
 
+weigh-fixed-requires : tie.Need-weigh-fixed-requires Inv-loop μ-loop
+weigh-fixed-requires c κs = (c .before .before .if1 .left, c .before .if2 .left)
+
+returns-3 : tie.Need-returns-3 Inv-loop μ-loop
+returns-3 c = rw (c .before .if3 .taken) (c .weigh-fixed .ensures)
+
+weigh-fixed-requires-2 : tie.Need-weigh-fixed-requires-2 Inv-loop μ-loop
+weigh-fixed-requires-2 c κs = (c .before .before .before .if1 .left, c .before .before .if2 .left)
+
+returns-4 : tie.Need-returns-4 Inv-loop μ-loop
+returns-4 c = rw (c .before .if4 .taken) (c .weigh-fixed2 .ensures)
+
 cast-size : tie.Need-cast-size Inv-loop μ-loop
 cast-size c = search needs
 
@@ -25,7 +37,7 @@ add-left : tie.Need-add-left Inv-loop μ-loop
 add-left c = search needs
 
 loop-holds : tie.Need-loop-holds Inv-loop μ-loop
-loop-holds c = weigh-start _ _ _ _ _ (c .before .if1 .left) (c .if2 .left)
+loop-holds c = weigh-start _ _ _ _ _ (c .before .before .before .if1 .left) (c .before .before .if2 .left)
 
 record-at-requires : tie.Need-record-at-requires Inv-loop μ-loop
 record-at-requires c κs = search needs
@@ -36,8 +48,8 @@ weigh-one-requires c κs = search needs
 enum-known-why : tie.Need-enum-known-why Inv-loop μ-loop
 enum-known-why c = search needs
 
-returns-3 : tie.Need-returns-3 Inv-loop μ-loop
-returns-3 c =
+returns-5 : tie.Need-returns-5 Inv-loop μ-loop
+returns-5 c =
     turn-bad (c .before .before .before .before .before .before .loop .inv) (c .before .before .before .before .before .loop-test .taken)
     (c .before .before .before .before .record-at .ensures) (c .before .before .before .weigh-one .ensures) _ (c .before .why .given .1)
 
@@ -59,8 +71,8 @@ loop-again c =
     (c .before .before .before .before .before .before .loop-test .taken) (c .before .before .before .before .before .record-at .ensures)
     (c .before .before .before .before .weigh-one .ensures) _ (c .before .before .n .given .1) (c .spend .ensures)
 
-returns-4 : tie.Need-returns-4 Inv-loop μ-loop
-returns-4 c = weigh-done (c .before .loop .inv) (c .loop-test .left)
+returns-6 : tie.Need-returns-6 Inv-loop μ-loop
+returns-6 c = weigh-done (c .before .loop .inv) (c .loop-test .left)
 
 pub weigh-spec : {M : Type 1} → statement M
 weigh-spec =
@@ -70,16 +82,20 @@ weigh-spec =
     μ-loop
     returns
     returns-2
+    weigh-fixed-requires
+    returns-3
+    weigh-fixed-requires-2
+    returns-4
     cast-size
     add-left
     loop-holds
     record-at-requires
     weigh-one-requires
     enum-known-why
-    returns-3
+    returns-5
     enum-known-n
     spend-requires
     add-i
     loop-less
     loop-again
-    returns-4)
+    returns-6)

@@ -1,9 +1,13 @@
--- The tag, the kind, then the record behind tag 0, without the byte of its key.
-use mathlib.Core.Path.{sym}
+-- The tag, the kind, then whether the record is good.
+use mathlib.Core.Path.{_≡_, _∙_, ap, sym}
+use mathlib.Core.Bool.{Bool, true, false}
+use Prim.Native.Nat.{ℕ}
 use native.Mathlib.Omega.{arith}
+use Rattle.wire.specs.Table.{good}
+use Rattle.wire.specs.declared.Weight.the-variants as weight
+use Rattle.write_record.specs.RecordLaws.{good-sound}
 use borrow.Author.Needs.{needs}
-use Rattle.run_write.specs.RunLaws.{weigh-not}
-use Rattle.run_write.proofs.Turns.{one-bad, one-some, one-bytes}
+use Rattle.run_write.specs.RunLaws.{weigh-run, weigh-not}
 use Rattle.run_write.proofs.weigh_one.Statement.{statement}
 use Rattle.run_write.proofs.weigh_one.Tie as tie
 
@@ -13,32 +17,28 @@ returns c = sym (weigh-not _ _ _ (λ g k t. c .if1 .taken t))
 returns-2 : tie.Need-returns-2
 returns-2 c = sym (weigh-not _ _ _ (λ g k t. c .if2 .taken k))
 
-weigh-record-requires : tie.Need-weigh-record-requires
-weigh-record-requires c κs = search needs
+is-good-requires : tie.Need-is-good-requires
+is-good-requires c κs = search needs
 
-enum-known-why : tie.Need-enum-known-why
-enum-known-why c = search needs
+-- it is good
+good-one : (c : tie.Then3) → let a = c .before .before .before .before .before .before .args in good (a .size) (a .r) ≡ true
+good-one c = sym (c .before .is-good .ensures) ∙ c .if3 .taken
 
-enum-known-n : tie.Need-enum-known-n
-enum-known-n c = search needs
-
-sub-bytes : tie.Need-sub-bytes
-sub-bytes c =
-    let i = c .before .before .before .before in
-    omega (
-      arith,
-      one-some _ _ _ (i .before .before .if1 .left) (i .if2 .left) (c .before .before .before .weigh-record .ensures) _ (c .before .n .given .1),
-    )
+value-len-requires : tie.Need-value-len-requires
+value-len-requires c κs e =
+    let a = c .before .before .before .before .before .before in
+    omega (arith, good-sound (a .args .size) (a .args .r) (good-one c) .payload e, a .good)
 
 returns-3 : tie.Need-returns-3
 returns-3 c =
-    let i = c .before .before .before .before in
-    one-bad _ _ _ (i .before .before .if1 .left) (i .if2 .left) (c .before .before .before .weigh-record .ensures) _ (c .before .why .given .1)
+    let k = c .before .before .before in
+    ap weight.Bytes (c .value-len .ensures) ∙ sym (weigh-run _ _ _ (good-one (c .before)) (k .if2 .left) (k .before .before .if1 .left))
 
 returns-4 : tie.Need-returns-4
-returns-4 c =
-    let i = c .before .before .before .before in
-    one-bytes _ _ _ (i .before .before .if1 .left) (i .if2 .left) (c .before .before .before .weigh-record .ensures) _ (c .before .n .given .1)
+returns-4 c = sym (weigh-not _ _ _ (λ g k t. no (sym g ∙ sym (c .before .is-good .ensures) ∙ c .if3 .left)))
+  where
+    no : _≡_ {A = Bool} true false → ⊥
+    no q = let z : _≡_ {A = ℕ} 0 1 = cc in omega arith
 
 pub weigh-one-spec : {M : Type 1} → statement M
 weigh-one-spec =
@@ -46,9 +46,7 @@ weigh-one-spec =
     (tie.spec
     returns
     returns-2
-    weigh-record-requires
-    enum-known-why
-    enum-known-n
-    sub-bytes
+    is-good-requires
+    value-len-requires
     returns-3
     returns-4)

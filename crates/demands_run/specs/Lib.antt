@@ -1,0 +1,3 @@
+pub mod RunRules
+pub mod RunVerdict
+pub mod Runs

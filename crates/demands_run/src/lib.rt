@@ -1,0 +1,1 @@
+// Packed runs: theorems, no code.
