@@ -10,6 +10,7 @@ use lib.Dec.{leb}
 use lib.ListN.{length, take, drop}
 use Rattle.wire.specs.Choose.{choose}
 use Rattle.wire.specs.Limits.{messageLimit}
+use Rattle.wire.specs.Marks.{marks}
 use Rattle.wire.specs.VarintLaws.{Bytes}
 use Rattle.wire.specs.Places.{part}
 use Rattle.wire.specs.Reading.{Message, Fields, readMessage}
@@ -104,7 +105,9 @@ module _ (s t f b : List ℕ) where
           where
             fits : (z : Bool) → leb (length fs) (room t) ≡ z → copiedBy s t f b (readInto s 0 (length s) t .answer) (readInto s 0 (length s) t .table)
                 ≡ stays NoRoom t f b
-            fits true z = rw (into-fits s 0 (length s) t fs y (leb-true (length fs) (room t) z)) (accepted-short (length s) (length fs) (filled t fs))
+            fits true z =
+                rw (into-fits s 0 (length s) t fs y (leb-true (length fs) (room t) z))
+                (accepted-short (length s) (length fs) (filled t (marks s 0 (length s))))
             fits false z = rw (into-no-room s 0 (length s) t fs y (leb-false (length fs) (room t) z))
 
 -- ---- what an entry that accepts, or refuses, left

@@ -6,8 +6,8 @@ use native.Mathlib.Omega.{arith}
 use borrow.Author.Tests.{le-leb}
 use lib.ListN.{length}
 use Rattle.wire.specs.Varint.{encode}
-use Rattle.wire.specs.Limits.{messageLimit}
-use Rattle.wire.specs.Table.{recordAt, goodValue, good}
+use Rattle.wire.specs.Limits.{messageLimit, noKey}
+use Rattle.wire.specs.Table.{recordAt, goodValue, goodHead, good, key-none}
 use Rattle.write_record.specs.Records.{judge, AllFine, checked, recordSize, message}
 use Rattle.write_record.specs.RecordLaws.{good-sound, record-size, message-last}
 use Rattle.write_message.specs.Writing.{Plan, Writes, Refuses, plan, measured, front}
@@ -17,20 +17,21 @@ use Rattle.wire.specs.declared.Written.the-variants.{At, Refused}
 
 -- one record: the whole source as a payload
 abbrev table : List ℕ → List ℕ
-table s = 0 ∷ 1 ∷ 0 ∷ length s ∷ []
+table s = 0 ∷ 1 ∷ 0 ∷ length s ∷ noKey ∷ []
 
 abbrev one : List ℕ → Plan
 one s = plan messageLimit s (table s) 1
 
 fine : (s : List ℕ) → length s ≤ messageLimit → checked messageLimit s (table s) 1 ≡ AllFine
-unfolding checked recordAt goodValue good judge
-fine s h = rw (le-leb (length s) messageLimit h, le-leb (0 + length s) (length s) (omega arith))
+unfolding checked recordAt goodValue goodHead good judge
+fine s h = rw (le-leb (length s) messageLimit h, key-none (length s) noKey refl, le-leb (0 + length s) (length s) (omega arith))
 
 size : (s : List ℕ) → length (message s (table s) 1) ≡ 1 + (length (encode (length s)) + length s)
-unfolding recordAt goodValue good recordSize encode
+unfolding recordAt goodValue goodHead good recordSize encode
 size s =
     ap length (message-last s (table s) 0)
-    ∙ record-size s 0 (recordAt (table s) 0) (good-sound (length s) (recordAt (table s) 0) (le-leb (0 + length s) (length s) (omega arith)))
+    ∙ record-size s 0 (recordAt (table s) 0)
+    (good-sound (length s) (recordAt (table s) 0) (rw (key-none (length s) noKey refl) (le-leb (0 + length s) (length s) (omega arith))))
 
 pub longest : (s : List ℕ) → length s ≡ 1048571 → measured (one s) ≡ At 0 1048575
 unfolding encode

@@ -2,7 +2,7 @@
 ghost use mathlib.Core.Path.{_≡_};
 ghost use Rattle.entry_write.specs.Writers.{encodeMessage, prependMessage, insertRecord};
 use wire::Inserted;
-use wire::Record;
+use wire::NewRecord;
 use wire::Written;
 
 // The longest source and the longest message, as the cores take it.
@@ -23,8 +23,8 @@ pub fn prepend_message(source: &[u8], table: &[u64], count: usize, buf: &mut [u8
     write_message::write_back(source, table, count, LONGEST, buf)
 }
 
-// A new record behind all of a table's first records whose tag is equal or lower. A refusal leaves the table as it was.
-pub fn insert(source: &[u8], table: &mut [u64], count: usize, new: Record) -> Inserted
+// A new record, with no key, behind all of a table's first records whose tag is equal or lower. A refusal leaves the table as it was.
+pub fn insert(source: &[u8], table: &mut [u64], count: usize, new: NewRecord) -> Inserted
     ensures { λ r. ⌜ record { answer = r; table = now (table .exit) } ≡ insertRecord (now (source .entry)) (now (table .entry)) count new ⌝ }
 {
     write_insertion::insert_record(source, table, count, new, LONGEST)

@@ -4,47 +4,17 @@ use mathlib.Core.Path.{_≡_, refl, ap, _∙_, sym}
 use mathlib.Core.Bool.{Bool, true, false}
 use mathlib.Core.List.{List, [], _∷_}
 use native.Mathlib.Omega.{arith}
-use borrow.Author.Tests.{ltb-true, lt-ltb, le-ltb, ltb-false, le-leb, eq-eqb, ne-eqb, eqb-true, eqb-false}
-use lib.Dec.{ltb, eqb}
+use borrow.Author.Tests.{lt-ltb, le-leb, eq-eqb, ne-eqb, eqb-true, eqb-false}
+use lib.Dec.{eqb}
 use lib.ListN.{length}
 use Rattle.wire.specs.Choose.{choose}
-use Rattle.wire.specs.Reading.{fieldAt}
 use Rattle.wire.specs.ReadingLaws.{field-moves}
-use Rattle.wire.specs.Marks.{Mark, marksFrom, marks-turn, marks-end, fieldsOf}
+use Rattle.wire.specs.Marks.{Mark, marksFrom, fieldsOf}
+use Rattle.wire.specs.MarkLaws.{Marked, none, some, marked, Rising}
 use Rattle.wire.specs.declared.Field.{Field}
-use Rattle.wire.specs.declared.FieldFound.{FieldFound}
-use Rattle.wire.specs.declared.FieldFound.the-variants as fieldFound
 use Rattle.message.specs.Tags.{ofTag}
 use Rattle.index.specs.Index.{Entry, entry, soundEntry, soundFrom}
 use Rattle.index_make.specs.Made.{joined, indexOf}
-
--- ---- tags never fall, and every key stands before the end
-
-abbrev pub Rising : ℕ → ℕ → List Mark → Type 0
-Rising e last [] = Unit {0}
-Rising e last (m ∷ ms) = (last ≤ m .field .tag) × (m .field .tag < 2 ^ 32) × (m .key < e) × Rising e (m .field .tag) ms
-
--- a list of marks is none, or a field and those behind it
-pub data Marked (k : ℕ) (s : List ℕ) (e p last : ℕ) : Type 0 where
-  none : marksFrom (suc k) s e p last ≡ [] → Marked k s e p last
-  some : (f : Field) (q : ℕ) → p < e → fieldAt s e p last ≡ fieldFound.Got f q
-      → marksFrom (suc k) s e p last ≡ record { key = p; field = f } ∷ marksFrom k s e q (f .tag) → Marked k s e p last
-
-pub marked : (k : ℕ) (s : List ℕ) (e p last : ℕ) → Marked k s e p last
-marked k s e p last = go (ltb p e) refl (fieldAt s e p last) refl
-  where
-    go : (b : Bool) → ltb p e ≡ b → (o : FieldFound) → fieldAt s e p last ≡ o → Marked k s e p last
-    go false b o x = none (marks-end s e p last (suc k) (ltb-false p e b))
-    go true b (fieldFound.Refused r) x = none (rw (b, x))
-    go true b (fieldFound.Got f q) x = let a = ltb-true p e b in some f q a x (marks-turn s e p last k f q a x)
-
-pub marks-rise : (k : ℕ) (s : List ℕ) (e p last : ℕ) → Rising e last (marksFrom k s e p last)
-marks-rise zero s e p last = tt
-marks-rise (suc k) s e p last = go (marked k s e p last) (λ q t. marks-rise k s e q t)
-  where
-    go : Marked k s e p last → ((q t : ℕ) → Rising e t (marksFrom k s e q t)) → Rising e last (marksFrom (suc k) s e p last)
-    go (none x) ih = rw x tt
-    go (some f q a x y) ih = let v = field-moves s e p last f q x in rw y (v .2, v .3, a, ih q (f .tag))
 
 -- every field takes two bytes at least
 pub marks-few : (k : ℕ) (s : List ℕ) (p last : ℕ) → p ≤ length s → p + 2 * length (marksFrom k s (length s) p last) ≤ length s

@@ -20,13 +20,13 @@ use Rattle.wire.specs.declared.VarintFound.the-variants as varintFound
 use Rattle.wire.specs.declared.ValueFound.the-variants as valueFound
 use Rattle.wire.specs.declared.FieldFound.the-variants as fieldFound
 
-drop-cut : (p c : ℕ) (s : List ℕ) → drop p (take c s) ≡ take (c - p) (drop p s)
+pub drop-cut : (p c : ℕ) (s : List ℕ) → drop p (take c s) ≡ take (c - p) (drop p s)
 drop-cut zero c s = let e : c - 0 ≡ c = omega arith in rw e
 drop-cut (suc p) zero s = let e : 0 - suc p ≡ 0 = omega arith in rw e
 drop-cut (suc p) (suc c) [] = sym (take-nil (suc c - suc p))
 drop-cut (suc p) (suc c) (b ∷ s) = let e : suc c - suc p ≡ c - p = omega arith in rw e (drop-cut p c s)
 
-sum-cut : (k : ℕ) (bs : List ℕ) (v n j : ℕ) → sum k bs ≡ Adds v n → n ≤ j → sum k (take j bs) ≡ Adds v n
+pub sum-cut : (k : ℕ) (bs : List ℕ) (v n j : ℕ) → sum k bs ≡ Adds v n → n ≤ j → sum k (take j bs) ≡ Adds v n
 sum-cut zero [] v n j e h = stops e
 sum-cut (suc k) [] v n j e h = stops e
 sum-cut k (b ∷ bs) v n zero e h = absurd (omega (arith, sum-takes k (b ∷ bs) v n e .0))

@@ -1,14 +1,14 @@
 -- A record's payload, as a part of the message that the record was read from.
-use Prim.Native.Nat.{ℕ, _+_, _^_, _≤_, _<_}
+use Prim.Native.Nat.{ℕ, _+_, _≤_, _<_}
 use mathlib.Core.Path.{_≡_, refl}
 use mathlib.Core.Bool.{Bool, true, false}
 use mathlib.Core.List.{List}
 use native.Mathlib.Omega.{arith}
-use borrow.Author.Tests.{lt-ltb, le-ltb, le-leb, lt-leb, eq-eqb, ne-eqb, ltb-true, ltb-false, leb-true, leb-false, eqb-true, eqb-false}
-use lib.Dec.{ltb, leb, eqb}
+use borrow.Author.Tests.{le-leb, lt-leb, eq-eqb, ne-eqb, leb-true, leb-false, eqb-true, eqb-false}
+use lib.Dec.{leb, eqb}
 use lib.ListN.{length, take, drop}
 use Rattle.wire.specs.Choose.{choose}
-use Rattle.wire.specs.Table.{goodValue, good}
+use Rattle.wire.specs.Table.{goodValue, goodHead, good}
 use Rattle.wire.specs.declared.Record.{Record}
 use Rattle.message_payload.specs.declared.Span.{Span}
 
@@ -31,28 +31,38 @@ module _ (n : ℕ) (r : Record) where
   unfolding spanOf
   span-kind h = rw (ne-eqb (r .kind) 1 h)
 
+  -- a record that is not good has none
+  pub span-bad : good n r ≡ false → spanOf n r ≡ record { start = 0; length = 0 }
+  unfolding spanOf
+  span-bad e = rw e (go (eqb (r .kind) 1))
+    where
+      go : (b : Bool) → _≡_ {A = Span} (choose (choose b false false) (record { start = r .value; length = r .length }) (record { start = 0; length = 0 }))
+          (record { start = 0; length = 0 })
+      go true = refl
+      go false = refl
+
   module _ (k : r .kind ≡ 1) where
-    pub span-tag : 2 ^ 32 ≤ r .tag → spanOf n r ≡ record { start = 0; length = 0 }
+    pub span-head : goodHead n (r .tag) (r .key) ≡ false → spanOf n r ≡ record { start = 0; length = 0 }
     unfolding spanOf good
-    span-tag h = rw (eq-eqb (r .kind) 1 k, le-ltb (r .tag) (2 ^ 32) h)
+    span-head h = rw (eq-eqb (r .kind) 1 k, h)
 
-    pub span-outside : r .tag < 2 ^ 32 → n < r .value + r .length → spanOf n r ≡ record { start = 0; length = 0 }
-    unfolding spanOf good goodValue
-    span-outside h g = rw (k, lt-ltb (r .tag) (2 ^ 32) h, lt-leb (r .value + r .length) n g)
+    module _ (h : goodHead n (r .tag) (r .key) ≡ true) where
+      pub span-outside : n < r .value + r .length → spanOf n r ≡ record { start = 0; length = 0 }
+      unfolding spanOf good goodValue
+      span-outside g = rw (k, h, lt-leb (r .value + r .length) n g)
 
-    pub span-inside : r .tag < 2 ^ 32 → r .value + r .length ≤ n → spanOf n r ≡ record { start = r .value; length = r .length }
-    unfolding spanOf good goodValue
-    span-inside h g = rw (k, lt-ltb (r .tag) (2 ^ 32) h, le-leb (r .value + r .length) n g)
+      pub span-inside : r .value + r .length ≤ n → spanOf n r ≡ record { start = r .value; length = r .length }
+      unfolding spanOf good goodValue
+      span-inside g = rw (k, h, le-leb (r .value + r .length) n g)
 
   -- it lies inside the slice
   pub span-within : spanOf n r .start + spanOf n r .length ≤ n
-  span-within = go (eqb (r .kind) 1) refl (ltb (r .tag) (2 ^ 32)) refl (leb (r .value + r .length) n) refl
+  span-within = go (eqb (r .kind) 1) refl (goodHead n (r .tag) (r .key)) refl (leb (r .value + r .length) n) refl
     where
-      go : (a : Bool) → eqb (r .kind) 1 ≡ a → (b : Bool) → ltb (r .tag) (2 ^ 32) ≡ b → (c : Bool) → leb (r .value + r .length) n ≡ c
+      go : (a : Bool) → eqb (r .kind) 1 ≡ a → (b : Bool) → goodHead n (r .tag) (r .key) ≡ b → (c : Bool) → leb (r .value + r .length) n ≡ c
           → spanOf n r .start + spanOf n r .length ≤ n
-      go false k b t c v = rw (span-kind (eqb-false (r .kind) 1 k)) (omega arith)
-      go true k false t c v = rw (span-tag (eqb-true (r .kind) 1 k) (ltb-false (r .tag) (2 ^ 32) t)) (omega arith)
-      go true k true t false v =
-          rw (span-outside (eqb-true (r .kind) 1 k) (ltb-true (r .tag) (2 ^ 32) t) (leb-false (r .value + r .length) n v)) (omega arith)
-      go true k true t true v =
-          rw (span-inside (eqb-true (r .kind) 1 k) (ltb-true (r .tag) (2 ^ 32) t) (leb-true (r .value + r .length) n v)) (leb-true (r .value + r .length) n v)
+      go false k b h c v = rw (span-kind (eqb-false (r .kind) 1 k)) (omega arith)
+      go true k false h c v = rw (span-head (eqb-true (r .kind) 1 k) h) (omega arith)
+      go true k true h false v = rw (span-outside (eqb-true (r .kind) 1 k) h (leb-false (r .value + r .length) n v)) (omega arith)
+      go true k true h true v =
+          rw (span-inside (eqb-true (r .kind) 1 k) h (leb-true (r .value + r .length) n v)) (leb-true (r .value + r .length) n v)

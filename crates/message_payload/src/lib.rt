@@ -20,7 +20,7 @@ pub fn payload_span(len: usize, r: Record) -> Span
     if r.kind != 1 {
         return none;
     }
-    if wire::LAST_TAG < r.tag {
+    if !wire::good_head(len, r.tag, r.key) {
         return none;
     }
     if (len as u64) < r.value {

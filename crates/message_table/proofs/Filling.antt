@@ -1,21 +1,21 @@
 -- The second pass: what is still to be written, on top of what is there, is the goal.
 use Prim.Native.Nat.{ℕ, suc, _+_, _-_, _*_, _/_, _%_, _^_, _≤_, _<_}
 use mathlib.Core.Path.{_≡_, ap, _∙_, sym}
-use mathlib.Core.List.{List, _∷_, _++_}
+use mathlib.Core.List.{List, [], _∷_, _++_}
 use native.Mathlib.Omega.{arith}
 use lib.ListN.{length, drop}
 use lib.Seq.{sets, sets-eq, length-sets}
 use Rattle.wire.specs.Limits.{recordWords}
+use Rattle.wire.specs.Marks.{Mark, marksFrom, marks, marks-turn, marks-end, marks-count}
 use Rattle.wire.specs.Reading.{fieldAt, varintAt, valueAt, wireOf, Fields, readsFrom, readMessage}
 use Rattle.wire.specs.ReadingLaws.{field-moves, field-found, Found, kind-wire}
-use Rattle.wire.specs.Theorem.{turn-ended, Stands, none, some, stands, ended-fields}
-use Rattle.wire.specs.Table.{kindWord, words, records, length-records}
+use Rattle.wire.specs.Theorem.{Stands, none, some, stands}
+use Rattle.wire.specs.Table.{kindWord, words, records, filled, length-records}
 use Rattle.wire.specs.declared.Field.{Field}
 use Rattle.wire.specs.declared.Record.{Record}
 use Rattle.wire.specs.declared.FieldFound.the-variants as fieldFound
 use Rattle.wire.specs.declared.VarintFound.the-variants.{Got}
 use Rattle.wire.specs.declared.ValueFound.the-variants as valueFound
-use Rattle.message_table.specs.Into.{intoTable}
 use Rattle.message_table.specs.Second.{Fits, Varinted, Valued, Worded}
 use Rattle.message_table.proofs.Present.{value-kind, same-varint}
 use Rattle.message.proofs.Walking.{positive}
@@ -28,13 +28,15 @@ pub record Filling (s : List ℕ) (e : ℕ) (goal : List ℕ) (p last i : ℕ) (
   pub fuel : e - p ≤ k
   pub read : readsFrom k s e m p last ≡ Fields rest
   pub room : i + recordWords * length rest ≤ length t
-  pub same : sets t i (records rest) ≡ goal
+  pub same : sets t i (records (marksFrom k s e p last)) ≡ goal
 
-pub fill-start : (s : List ℕ) (start e : ℕ) (t : List ℕ) → Fits s start e t → Filling s e (intoTable t (readMessage s start e)) start 0 0 t
-unfolding readMessage
+pub fill-start : (s : List ℕ) (start e : ℕ) (t : List ℕ) → Fits s start e t → Filling s e (filled t (marks s start e)) start 0 0 t
+unfolding readMessage marks
 fill-start s start e t f =
-    let n = length-records (f .fields) in
-    let z : 0 + length (records (f .fields)) ≡ recordWords * length (f .fields) = omega (arith, n) in
+    let ms = marksFrom (e - start) s e start 0 in
+    let n = length-records ms in
+    let c = marks-count s start e (f .fields) (f .read) in
+    let z : 0 + length (records ms) ≡ recordWords * length ms = omega (arith, n) in
     record {
       k = e - start;
       m = start;
@@ -42,9 +44,7 @@ fill-start s start e t f =
       fuel = omega arith;
       read = f .read;
       room = omega (arith, f .room);
-      same =
-          sets-eq (records (f .fields)) t 0 (omega (arith, f .room, n)) ∙ ap (λ (j : ℕ). records (f .fields) ++ drop j t) z
-          ∙ sym (ap (intoTable t) (f .read));
+      same = sets-eq (records ms) t 0 (omega (arith, f .room, n, c)) ∙ ap (λ (j : ℕ). records ms ++ drop j t) z;
     }
 
 -- what stands at the place of a turn
@@ -57,18 +57,17 @@ pub record Here (s : List ℕ) (e : ℕ) (goal : List ℕ) (p last i : ℕ) (t :
   pub fuel : e - next ≤ k
   pub read : readsFrom k s e p next (field .tag) ≡ Fields rest
   pub room : i + recordWords + recordWords * length rest ≤ length t
-  pub same : sets t i (records (field ∷ rest)) ≡ goal
+  pub same : sets t i (records (record { key = p; field = field } ∷ marksFrom k s e next (field .tag))) ≡ goal
 
 module _ {s : List ℕ} {e : ℕ} {goal : List ℕ} {p last i : ℕ} {t : List ℕ} (w : Filling s e goal p last i t) where
   pub here : p < e → Here s e goal p last i t
   here a =
-      go
-      (stands (w .k - 1) s e (w .m) p last (w .rest)
-      (ap (λ (j : ℕ). readsFrom j s e (w .m) p last) (sym (positive (w .k) (omega (arith, w .fuel)))) ∙ w .read))
+      let j = positive (w .k) (omega (arith, w .fuel)) in
+      go j (stands (w .k - 1) s e (w .m) p last (w .rest) (ap (λ (j : ℕ). readsFrom j s e (w .m) p last) (sym j) ∙ w .read))
     where
-      go : Stands (w .k - 1) s e p last (w .rest) → Here s e goal p last i t
-      go (none b c) = absurd (omega arith)
-      go (some f q gs b c d x) =
+      go : w .k ≡ suc (w .k - 1) → Stands (w .k - 1) s e p last (w .rest) → Here s e goal p last i t
+      go j (none b c) = absurd (omega arith)
+      go j (some f q gs b c d x) =
           let v = field-moves s e p last f q c in
           record {
             field = f;
@@ -79,15 +78,14 @@ module _ {s : List ℕ} {e : ℕ} {goal : List ℕ} {p last i : ℕ} {t : List �
             fuel = omega (arith, w .fuel, v .0);
             read = d;
             room = omega (arith, w .room, ap length x);
-            same = ap (λ (l : List Field). sets t i (records l)) (sym x) ∙ w .same;
+            same =
+                ap (λ (l : List Mark). sets t i (records l))
+                (sym (ap (λ (n : ℕ). marksFrom n s e p last) j ∙ marks-turn s e p last (w .k - 1) f q b c))
+                ∙ w .same;
           }
 
   pub fill-end : e ≤ p → t ≡ goal
-  fill-end a = go (ended-fields (w .k) s e (w .m) p last (w .rest) (sym (turn-ended s e (w .m) p last (w .k) a) ∙ w .read))
-    where
-      go : Stands (w .k) s e p last (w .rest) → t ≡ goal
-      go (none b c) = ap (λ (l : List Field). sets t i (records l)) (sym c) ∙ w .same
-      go (some f q gs b c d x) = absurd (omega arith)
+  fill-end a = ap (λ (l : List Mark). sets t i (records l)) (sym (marks-end s e p last (w .k) a)) ∙ w .same
 
 -- a turn: the key, the value behind it, a record, and the next place
 module _ {s : List ℕ} {e : ℕ} {goal : List ℕ} {p last i : ℕ} {t : List ℕ} (h : Here s e goal p last i t) where
@@ -128,12 +126,12 @@ module _ {s : List ℕ} {e : ℕ} {goal : List ℕ} {p last i : ℕ} {t : List �
 
       -- the record of the turn
       abbrev stored : Record
-      stored = record { tag = last + key / 4; kind = key % 4; value = value; length = size }
+      stored = record { tag = last + key / 4; kind = key % 4; value = value; length = size; key = p }
 
       pub fill-turn : (u : List ℕ) → u ≡ sets t i (words stored) → Filling s e goal next (last + key / 4) (i + recordWords) u × (length u ≡ length t)
       fill-turn u g =
           let x = w e (h .field .value) (h .next) there in
-          let d : i + recordWords ≡ suc (suc (suc (suc i))) = omega arith in
+          let d : i + recordWords ≡ suc (suc (suc (suc (suc i)))) = omega arith in
           let n = ap length g ∙ length-sets t i (words stored) in (
             rw (tag, x .2, d)
                 (

@@ -7,6 +7,7 @@ use lib.Dec.{leb}
 use lib.ListN.{length}
 use Rattle.wire.specs.Choose.{choose}
 use Rattle.wire.specs.Faults.{nowhere}
+use Rattle.wire.specs.Marks.{Mark, marks}
 use Rattle.wire.specs.Reading.{Message, Fields, readMessage}
 use Rattle.wire.specs.Reading as reading
 use Rattle.wire.specs.Table.{room, filled}
@@ -28,39 +29,35 @@ pub record Outcome : Type 0 where
 abbrev pub outcome : Read → List ℕ → Outcome
 outcome r t = record { answer = r; table = t }
 
--- Rules T4, T5 and R4: an accepted message with room is in the table, and the end and the count are told; one without is NoRoom with the fields
+-- Rules T4, T5 and R4: an accepted message with room is in the table with its keys, and the end and the count are told; one without is NoRoom with the fields
 -- needed, and no read failed (rule F6); a refusal of the format has its place and where the read failed (rule F5), and leaves the table
-abbrev pub landed : ℕ → Fault → List ℕ → Message → Outcome
-landed e f t (Fields fs) =
-    choose (leb (length fs) (room t)) (outcome (Accepted e (length fs)) (filled t fs)) (outcome (Refused NoRoom 0 (length fs) nowhere) t)
-landed e f t (reading.Refused r p) = outcome (Refused r p 0 f) t
+abbrev pub landed : ℕ → Fault → List ℕ → List Mark → Message → Outcome
+landed e f t ms (Fields fs) =
+    choose (leb (length fs) (room t)) (outcome (Accepted e (length fs)) (filled t ms)) (outcome (Refused NoRoom 0 (length fs) nowhere) t)
+landed e f t ms (reading.Refused r p) = outcome (Refused r p 0 f) t
 
 unfoldable pub readInto : List ℕ → ℕ → ℕ → List ℕ → Outcome
-readInto s start e t = landed e (messageFault s start e) t (readMessage s start e)
+readInto s start e t = landed e (messageFault s start e) t (marks s start e) (readMessage s start e)
 
 -- its three cases
 module _ (s : List ℕ) (start e : ℕ) (t : List ℕ) where
   pub into-refused : (r : Refusal) (p : ℕ) → readMessage s start e ≡ reading.Refused r p
       → readInto s start e t ≡ outcome (Refused r p 0 (messageFault s start e)) t
   unfolding readInto
-  into-refused r p h = ap (landed e (messageFault s start e) t) h
+  into-refused r p h = ap (landed e (messageFault s start e) t (marks s start e)) h
 
   -- where it failed by the short way
-  pub into-fault : {r : Refusal} {p : ℕ} {f : Fault} → Bytes s → f ≡ faultAt s e r p → readMessage s start e ≡ reading.Refused r p
-      → outcome (Refused r p 0 f) t ≡ readInto s start e t
-  into-fault {r} {p} b g h = ap (λ (x : Fault). outcome (Refused r p 0 x) t) (g ∙ sym (message-short s start e r p b h)) ∙ sym (into-refused r p h)
+  pub into-fault : {r : Refusal} {p : ℕ} {a : Read} → Bytes s → a ≡ Refused r p 0 (faultAt s e r p) → readMessage s start e ≡ reading.Refused r p
+      → outcome a t ≡ readInto s start e t
+  into-fault {r} {p} b g h =
+      ap (λ (x : Read). outcome x t) (g ∙ ap (Refused r p 0) (sym (message-short s start e r p b h))) ∙ sym (into-refused r p h)
 
   pub into-no-room : (fs : List Field) → readMessage s start e ≡ Fields fs → room t < length fs
       → readInto s start e t ≡ outcome (Refused NoRoom 0 (length fs) nowhere) t
   unfolding readInto
-  into-no-room fs h g = ap (landed e (messageFault s start e) t) h ∙ rw (lt-leb (length fs) (room t) g)
+  into-no-room fs h g = ap (landed e (messageFault s start e) t (marks s start e)) h ∙ rw (lt-leb (length fs) (room t) g)
 
   pub into-fits : (fs : List Field) → readMessage s start e ≡ Fields fs → length fs ≤ room t
-      → readInto s start e t ≡ outcome (Accepted e (length fs)) (filled t fs)
+      → readInto s start e t ≡ outcome (Accepted e (length fs)) (filled t (marks s start e))
   unfolding readInto
-  into-fits fs h g = ap (landed e (messageFault s start e) t) h ∙ rw (le-leb (length fs) (room t) g)
-
--- the table alone
-abbrev pub intoTable : List ℕ → Message → List ℕ
-intoTable t (Fields fs) = filled t fs
-intoTable t (reading.Refused r p) = t
+  into-fits fs h g = ap (landed e (messageFault s start e) t (marks s start e)) h ∙ rw (le-leb (length fs) (room t) g)

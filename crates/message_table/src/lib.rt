@@ -5,10 +5,13 @@ ghost use lib.ListN.{length, take, drop};
 ghost use lib.Seq.{sets};
 ghost use Rattle.wire.specs.Fixed.{number};
 ghost use Rattle.wire.specs.Limits.{recordWords};
-ghost use Rattle.wire.specs.Reading.{varintAt, readMessage};
-ghost use Rattle.wire.specs.Table.{words};
+ghost use Rattle.wire.specs.Marks.{marks};
+ghost use Rattle.wire.specs.Reading.{varintAt};
+ghost use Rattle.wire.specs.Table.{words, filled};
+ghost use Rattle.wire.specs.declared.Read.the-variants.{Refused};
 ghost use Rattle.wire.specs.declared.VarintFound.the-variants.{Got};
-ghost use Rattle.message_table.specs.Into.{readInto, intoTable};
+ghost use Rattle.fault.specs.Short.{faultAt};
+ghost use Rattle.message_table.specs.Into.{readInto};
 ghost use Rattle.message_table.specs.Second.{Fits, Varinted, Valued, Worded};
 use message::Decided;
 use wire::Fault;
@@ -85,7 +88,7 @@ fn known_four(s: &[u8], at: usize) -> u64
     field_value::four_bytes(s[at], s[at + 1], s[at + 2], s[at + 3])
 }
 
-// The last two words of a record, and the place after the value.
+// A value's two words of a record, and the place after it.
 fn known_value(s: &[u8], at: usize, kind: u64) -> Words
     requires { ⌜ Valued (now s) at kind ⌝ }
     ensures { λ r. ⌜ Worded (now (s .entry)) at kind (r .value) (r .length) (r .next) ⌝ }
@@ -132,12 +135,13 @@ fn store(table: &mut [u64], i: usize, r: Record)
     table[i + 1] = r.kind;
     table[i + 2] = r.value;
     table[i + 3] = r.length;
+    table[i + 4] = r.key;
 }
 
 // Pass two: the records of a message that is known to be good and to have room.
 fn fill(s: &[u8], start: usize, end: usize, table: &mut [u64])
     requires { ⌜ Fits (now s) start end (now table) ⌝ }
-    ensures { λ _. ⌜ now (table .exit) ≡ intoTable (now (table .entry)) (readMessage (now (s .entry)) start end) ⌝ }
+    ensures { λ _. ⌜ now (table .exit) ≡ filled (now (table .entry)) (marks (now (s .entry)) start end) ⌝ }
 {
     let mut p = start;
     let mut tag: u64 = 0;
@@ -156,11 +160,20 @@ fn fill(s: &[u8], start: usize, end: usize, table: &mut [u64])
                 kind: key % 4,
                 value: v.value,
                 length: v.length,
+                key: p as u64,
             },
         );
         p = v.next;
         i += wire::RECORD_WORDS;
     }
+}
+
+// The answer to a message that is refused at a place.
+// INLINE: a function of its own, folded into its one caller: written out there, the compiler keeps the end where calls of pass one lose it (a level 3 % more).
+fn refused(s: &[u8], at: usize, end: usize, why: Refusal) -> Read
+    ensures { λ r. ⌜ r ≡ Refused why at 0 (faultAt (now (s .entry)) end why at) ⌝ }
+{
+    Read::Refused(why, at, 0, fault::fault_at(s, at, end, why))
 }
 
 // A message read into a table: nothing is written before the whole message is known to be good and to have room.
@@ -169,7 +182,7 @@ pub fn read_into(s: &[u8], start: usize, end: usize, table: &mut [u64]) -> Read
     ensures { λ r. ⌜ record { answer = r; table = now (table .exit) } ≡ readInto (now (s .entry)) start end (now (table .entry)) ⌝ }
 {
     match message::decide(s, start, end) {
-        Decided::Refused(r, p) => Read::Refused(r, p, 0, fault::fault_at(s, p, end, r)),
+        Decided::Refused(r, p) => refused(s, p, end, r),
         Decided::Fields(n) => {
             if table.len() / wire::RECORD_WORDS < n {
                 let nowhere = Fault { place: 0, bytes: 0 };

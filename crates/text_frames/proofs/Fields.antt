@@ -7,21 +7,22 @@ use native.Mathlib.Numerals.{add-one}
 use lib.ListN.{length, take, drop, getD, length-append, drop-of-length-le}
 use lib.Seq.{drop-cons, getD-drop}
 use Rattle.wire.specs.Limits.{recordWords}
+use Rattle.wire.specs.Marks.{Mark, fieldsOf}
 use Rattle.wire.specs.Fixed.{fixed}
 use Rattle.wire.specs.Written.{Item, contentKind}
 use Rattle.wire.specs.Places.{shown, itemOf, items}
 use Rattle.write_record.specs.Taken.{recordIn, record-there}
-use Rattle.wire.specs.Table.{room, kindWord, valueOf, recordOf, records, recordAt, fieldIn, fieldsFrom, value-words, length-records, fields-records}
+use Rattle.wire.specs.Table.{room, kindWord, valueOf, recordOf, records, recordAt, fieldIn, fieldsFrom, key-inside, head-key}
+use Rattle.wire.specs.Table.{value-words, length-records, fields-records}
 use Rattle.wire.specs.declared.Value.{Value}
 use Rattle.wire.specs.declared.Value.the-variants as val
-use Rattle.wire.specs.declared.Field.{Field}
 use Rattle.wire.specs.declared.Record.{Record}
 use Rattle.place.specs.Place.{Placed, putAt, Putting, put-start, put-done}
 use Rattle.message_payload.specs.Payload.{payload, span-inside}
 use Rattle.text_digits.specs.Digits.{digits, hexed}
 use Rattle.text_frames.specs.Text.{spaced, bytesText, valueText, fieldText, fieldsText}
-use Rattle.text_frames.specs.Room.{Held, Inside, AllInside}
-use Rattle.text_frames.specs.Print.{Lined, Recorded, Listed}
+use Rattle.text_frames.specs.Room.{Held}
+use Rattle.text_frames.specs.Print.{markIn, Kept, AllKept, Lined, Recorded, Listed}
 use Rattle.text_frames.proofs.Puts.{has-room, put-next}
 
 -- ---- bytes
@@ -68,10 +69,11 @@ module _ (s : List ℕ) where
   held-payload k v l e h = rw e at h
 
   -- the payload is the bytes that the record says
-  pub payload-inside : (r : Record) → Inside s (fieldIn r) → 1 ≤ r .kind → r .kind < 2 → payload s r ≡ take (r .length) (drop (r .value) s)
+  pub payload-inside : (r : Record) → Kept s (markIn r) → 1 ≤ r .kind → r .kind < 2 → payload s r ≡ take (r .length) (drop (r .value) s)
   payload-inside r i g h =
       let k : r .kind ≡ 1 = omega arith in
-      rw (span-inside (length s) r k (i .0) (held-payload (r .kind) (r .value) (r .length) k (i .1)))
+      let t = head-key (length s) (r .tag) (r .key) (i .0 .0) ∙ key-inside (length s) (r .key) (i .1) in
+      rw (span-inside (length s) r k t (held-payload (r .kind) (r .value) (r .length) k (i .0 .1)))
 
 -- ---- a line: the pieces in their order
 
@@ -94,46 +96,46 @@ kind-content s (val.LengthDelimited p n) = refl
 kind-content s (val.ThirtyTwoBit v) = refl
 kind-content s (val.SixtyFourBit v) = refl
 
-records-drop : (fs : List Field) (t : List ℕ) (i : ℕ) → i ≤ length fs → drop (recordWords * i) (records fs ++ t) ≡ records (drop i fs) ++ t
-records-drop fs t zero h = refl
+records-drop : (ms : List Mark) (t : List ℕ) (i : ℕ) → i ≤ length ms → drop (recordWords * i) (records ms ++ t) ≡ records (drop i ms) ++ t
+records-drop ms t zero h = refl
 records-drop [] t (suc i) h = absurd (omega arith)
-records-drop (f ∷ fs) t (suc i) h =
-    let e : recordWords * suc i ≡ suc (suc (suc (suc (recordWords * i)))) = omega arith in
-    rw e (records-drop fs t i (omega arith))
+records-drop (m ∷ ms) t (suc i) h =
+    let e : recordWords * suc i ≡ suc (suc (suc (suc (suc (recordWords * i))))) = omega arith in
+    rw e (records-drop ms t i (omega arith))
 
 -- record i of the table is that of field i
-pub record-is : (fs : List Field) (t : List ℕ) (i : ℕ) (f : Field) (gs : List Field) → i < length fs → drop i fs ≡ f ∷ gs
-    → recordAt (records fs ++ t) i ≡ recordOf f
+pub record-is : (ms : List Mark) (t : List ℕ) (i : ℕ) (m : Mark) (ns : List Mark) → i < length ms → drop i ms ≡ m ∷ ns
+    → recordAt (records ms ++ t) i ≡ recordOf m
 unfolding recordAt
-record-is fs t i f gs h e =
-    let u = records fs ++ t in
-    let d : drop (recordWords * i) u ≡ records (f ∷ gs) ++ t = records-drop fs t i (omega arith) ∙ ap (λ (l : List Field). records l ++ t) e in
-    let w : (k : ℕ) → getD u (recordWords * i + k) 0 ≡ getD (records (f ∷ gs) ++ t) k 0 =
+record-is ms t i m ns h e =
+    let u = records ms ++ t in
+    let d : drop (recordWords * i) u ≡ records (m ∷ ns) ++ t = records-drop ms t i (omega arith) ∙ ap (λ (l : List Mark). records l ++ t) e in
+    let w : (k : ℕ) → getD u (recordWords * i + k) 0 ≡ getD (records (m ∷ ns) ++ t) k 0 =
     λ k. sym (getD-drop (recordWords * i) u k 0) ∙ ap (λ (l : List ℕ). getD l k 0) d in
     let z : recordWords * i + 0 ≡ recordWords * i = omega arith in
-    let a : getD u (recordWords * i) 0 ≡ f .tag = rw z at (w 0) in
-    rw (a, w 1, w 2, w 3)
+    let a : getD u (recordWords * i) 0 ≡ m .field .tag = rw z at (w 0) in
+    rw (a, w 1, w 2, w 3, w 4)
 
 -- the field of record i, and those behind it
-pub record Next (fs : List Field) (i : ℕ) (r : Record) : Type 0 where
-  pub field : Field
-  pub rest : List Field
-  pub here : drop i fs ≡ field ∷ rest
-  pub behind : drop (i + 1) fs ≡ rest
-  pub is : fieldIn r ≡ field
-  pub kind : r .kind ≡ kindWord (field .value)
+pub record Next (ms : List Mark) (i : ℕ) (r : Record) : Type 0 where
+  pub mark : Mark
+  pub rest : List Mark
+  pub here : drop i ms ≡ mark ∷ rest
+  pub behind : drop (i + 1) ms ≡ rest
+  pub is : markIn r ≡ mark
+  pub kind : r .kind ≡ kindWord (mark .field .value)
 
-next-of : (fs : List Field) (t : List ℕ) (i : ℕ) (r : Record) → i < length fs → r ≡ recordAt (records fs ++ t) i → Next fs i r
-next-of fs t i r h e =
-    let f = getD fs i (fieldIn r) in
-    let d = drop-cons fs i (fieldIn r) h in
-    let k : r ≡ recordOf f = e ∙ record-is fs t i f (drop (suc i) fs) h d in
+next-of : (ms : List Mark) (t : List ℕ) (i : ℕ) (r : Record) → i < length ms → r ≡ recordAt (records ms ++ t) i → Next ms i r
+next-of ms t i r h e =
+    let m = getD ms i (markIn r) in
+    let d = drop-cons ms i (markIn r) h in
+    let k : r ≡ recordOf m = e ∙ record-is ms t i m (drop (suc i) ms) h d in
     record {
-      field = f;
-      rest = drop (suc i) fs;
+      mark = m;
+      rest = drop (suc i) ms;
       here = d;
       behind = rw (add-one i);
-      is = ap fieldIn k ∙ ap (λ (v : Value). record { tag = f .tag; value = v }) (value-words (f .value));
+      is = ap markIn k ∙ ap (λ (v : Value). record { key = m .key; field = record { tag = m .field .tag; value = v } }) (value-words (m .field .value));
       kind = ap (λ (x : Record). x .kind) k;
     }
 
@@ -142,11 +144,11 @@ next-of fs t i r h e =
 pub record Listing (out : List ℕ) (at : ℕ) (head s table : List ℕ) (count : ℕ) (buf : List ℕ) (p i : ℕ) : Type 0 where
   pub has : Recorded s table count
   pub reach : i ≤ count
-  pub left : AllInside s (drop i (has .fields))
-  pub put : Putting out at (fieldsText head (items s (has .fields))) buf p (fieldsText head (items s (drop i (has .fields))))
+  pub left : AllKept s (drop i (has .marks))
+  pub put : Putting out at (fieldsText head (items s (fieldsOf (has .marks)))) buf p (fieldsText head (items s (fieldsOf (drop i (has .marks)))))
 
-pub fields-are : {s table : List ℕ} {count : ℕ} (h : Recorded s table count) → fieldsFrom count table 0 ≡ h .fields
-fields-are h = rw (h .listed, h .many) (fields-records (h .fields) (h .rest))
+pub fields-are : {s table : List ℕ} {count : ℕ} (h : Recorded s table count) → fieldsFrom count table 0 ≡ fieldsOf (h .marks)
+fields-are h = rw (h .listed, h .many) (fields-records (h .marks) (h .rest))
 
 pub list-start : {out : List ℕ} {at : ℕ} {head s table : List ℕ} {count : ℕ} → Listed out at head s table count → Listing out at head s table count out at 0
 list-start {out} {at} {head} {s} l =
@@ -155,36 +157,38 @@ list-start {out} {at} {head} {s} l =
       has = h;
       reach = omega arith;
       left = h .inside;
-      put = put-start out at (fieldsText head (items s (h .fields))) (rw (fields-are h) at (l .room));
+      put = put-start out at (fieldsText head (items s (fieldsOf (h .marks)))) (rw (fields-are h) at (l .room));
     }
 
 module _ {out : List ℕ} {at : ℕ} {head s table : List ℕ} {count : ℕ} {buf : List ℕ} {p i : ℕ} (w : Listing out at head s table count buf p i) where
   list-words : i < count → i < room table
   list-words h =
-      omega (arith, w .has .many, ap length (w .has .listed), length-append (records (w .has .fields)) (w .has .rest), length-records (w .has .fields))
+      omega (arith, w .has .many, ap length (w .has .listed), length-append (records (w .has .marks)) (w .has .rest), length-records (w .has .marks))
 
   module _ (h : i < count) {r : Record} (e : r ≡ recordIn table i) where
-    next : Next (w .has .fields) i r
+    next : Next (w .has .marks) i r
     next =
-        next-of (w .has .fields) (w .has .rest) i r (omega (arith, w .has .many))
+        next-of (w .has .marks) (w .has .rest) i r (omega (arith, w .has .many))
         (e ∙ record-there table i (list-words h) ∙ ap (λ (t : List ℕ). recordAt t i) (w .has .listed))
 
-    next-put : Putting out at (fieldsText head (items s (w .has .fields))) buf p
-        (fieldText head (itemOf s (fieldIn r)) ++ fieldsText head (items s (next .rest)))
+    next-put : Putting out at (fieldsText head (items s (fieldsOf (w .has .marks)))) buf p
+        (fieldText head (itemOf s (fieldIn r)) ++ fieldsText head (items s (fieldsOf (next .rest))))
     next-put =
-        subst (λ (x : Item). Putting out at (fieldsText head (items s (w .has .fields))) buf p (fieldText head x ++ fieldsText head (items s (next .rest))))
-        (ap (itemOf s) (sym (next .is)))
+        subst
+        (λ (x : Item). Putting out at (fieldsText head (items s (fieldsOf (w .has .marks)))) buf p
+        (fieldText head x ++ fieldsText head (items s (fieldsOf (next .rest)))))
+        (ap (λ (m : Mark). itemOf s (m .field)) (sym (next .is)))
         (rw (next .here) at (w .put))
 
-    next-inside : Inside s (next .field) × AllInside s (next .rest)
+    next-inside : Kept s (next .mark) × AllKept s (next .rest)
     next-inside = rw (next .here) at (w .left)
 
     pub list-one : Lined buf p head s r
     list-one =
         record {
-          room = has-room (fieldText head (itemOf s (fieldIn r))) (fieldsText head (items s (next .rest))) next-put;
-          inside = subst (Inside s) (sym (next .is)) (next-inside .0);
-          kind = next .kind ∙ kind-content s (next .field .value) ∙ ap (λ (f : Field). contentKind (shown s (f .value))) (sym (next .is));
+          room = has-room (fieldText head (itemOf s (fieldIn r))) (fieldsText head (items s (fieldsOf (next .rest)))) next-put;
+          inside = subst (Kept s) (sym (next .is)) (next-inside .0);
+          kind = next .kind ∙ kind-content s (next .mark .field .value) ∙ ap (λ (m : Mark). contentKind (shown s (m .field .value))) (sym (next .is));
         }
 
     pub list-more : {n : ℕ} {c : List ℕ} → _≡_ {A = Placed} (record { next = n; buf = c }) (putAt buf p (fieldText head (itemOf s (fieldIn r))))
@@ -194,11 +198,11 @@ module _ {out : List ℕ} {at : ℕ} {head s table : List ℕ} {count : ℕ} {bu
           has = w .has;
           reach = omega arith;
           left = rw (next .behind) (next-inside .1);
-          put = rw (next .behind) (put-next _ (fieldsText head (items s (next .rest))) next-put q);
+          put = rw (next .behind) (put-next _ (fieldsText head (items s (fieldsOf (next .rest)))) next-put q);
         }
 
   pub list-done : count ≤ i → record { next = p; buf = buf } ≡ putAt out at (fieldsText head (items s (fieldsFrom count table 0)))
   list-done h =
-      let d : Putting out at (fieldsText head (items s (w .has .fields))) buf p [] =
-      rw (drop-of-length-le (w .has .fields) {i = i} (omega (arith, w .has .many))) at (w .put) in
+      let d : Putting out at (fieldsText head (items s (fieldsOf (w .has .marks)))) buf p [] =
+      rw (drop-of-length-le (w .has .marks) {i = i} (omega (arith, w .has .many))) at (w .put) in
       rw (fields-are (w .has)) (put-done d)

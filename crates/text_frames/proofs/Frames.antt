@@ -9,6 +9,8 @@ use lib.Dec.{leb}
 use lib.ListN.{length, take, drop, length-take}
 use Rattle.wire.specs.Limits.{recordWords}
 use Rattle.wire.specs.Faults.{nowhere}
+use Rattle.wire.specs.Marks.{Mark, marks, fieldsOf, marks-fields, marks-count}
+use Rattle.wire.specs.MarkLaws.{marks-rise}
 use Rattle.wire.specs.Reading.{Message, Fields, readMessage}
 use Rattle.wire.specs.Reading as reading
 use Rattle.wire.specs.Table.{room, filled}
@@ -27,8 +29,9 @@ use Rattle.text_hex.specs.declared.Frame.{Frame}
 use Rattle.text_hex.specs.declared.Frame.the-variants.{Bytes}
 use Rattle.entry_message.specs.Messages.{readEntry, entry-open}
 use Rattle.text_frames.specs.Text.{told}
-use Rattle.text_frames.specs.Room.{sized, told-none}
-use Rattle.text_frames.specs.Print.{frameRoom, answerText, outcomeText, Roomy, Closed, Framable, Messaged, shows, framePrinting, printFrame, print-frame}
+use Rattle.text_frames.specs.Room.{AllInside, sized, told-none}
+use Rattle.text_frames.specs.Print.{frameRoom, answerText, outcomeText, Roomy, all-kept, Closed, Framable, Messaged, shows, framePrinting}
+use Rattle.text_frames.specs.Print.{printFrame, print-frame}
 use Rattle.text_frames.specs.PrintLaws.{outcome-size}
 
 -- ---- an accepted answer is that of fields
@@ -36,19 +39,19 @@ use Rattle.text_frames.specs.PrintLaws.{outcome-size}
 no-accept : {A : Type 0} {r : Refusal} {p n e count : ℕ} {f : Fault} → Refused r p n f ≡ Accepted e count → A
 no-accept h = let z : _≡_ {A = ℕ} 0 1 = cc in absurd (omega arith)
 
-landed-accepts : (e : ℕ) (f : Fault) (t : List ℕ) (m : Message) (x count : ℕ) (t′ : List ℕ) → outcome (Accepted x count) t′ ≡ landed e f t m
-    → (fs : List Field) × (m ≡ Fields fs) × (count ≡ length fs) × (t′ ≡ filled t fs)
-landed-accepts e f t (Fields fs) x count t′ h = go (leb (length fs) (room t)) refl
+landed-accepts : (e : ℕ) (f : Fault) (t : List ℕ) (ms : List Mark) (m : Message) (x count : ℕ) (t′ : List ℕ) → outcome (Accepted x count) t′ ≡ landed e f t ms m
+    → (fs : List Field) × (m ≡ Fields fs) × (count ≡ length fs) × (t′ ≡ filled t ms)
+landed-accepts e f t ms (Fields fs) x count t′ h = go (leb (length fs) (room t)) refl
   where
-    go : (b : Bool) → leb (length fs) (room t) ≡ b → (gs : List Field) × (Fields fs ≡ Fields gs) × (count ≡ length gs) × (t′ ≡ filled t gs)
+    go : (b : Bool) → leb (length fs) (room t) ≡ b → (gs : List Field) × (Fields fs ≡ Fields gs) × (count ≡ length gs) × (t′ ≡ filled t ms)
     go true b =
-        let q : outcome (Accepted x count) t′ ≡ outcome (Accepted e (length fs)) (filled t fs) = simp b at h in
+        let q : outcome (Accepted x count) t′ ≡ outcome (Accepted e (length fs)) (filled t ms) = simp b at h in
         let a : Accepted x count ≡ Accepted e (length fs) = ap (λ (o : Outcome). o .answer) q in
         (fs, refl, cc, ap (λ (o : Outcome). o .table) q)
     go false b =
         let q : outcome (Accepted x count) t′ ≡ outcome (Refused NoRoom 0 (length fs) nowhere) t = simp b at h in
         no-accept (sym (ap (λ (o : Outcome). o .answer) q))
-landed-accepts e f t (reading.Refused r p) x count t′ h = no-accept (sym (ap (λ (o : Outcome). o .answer) h))
+landed-accepts e f t ms (reading.Refused r p) x count t′ h = no-accept (sym (ap (λ (o : Outcome). o .answer) h))
 
 -- an answer by its case
 pub answered : {x y : Read} {t : List ℕ} {o : Outcome} → x ≡ y → outcome x t ≡ o → outcome y t ≡ o
@@ -69,12 +72,21 @@ module _ {out : List ℕ} {at : ℕ} {s : List ℕ} (f : Framable out at s) (n :
 -- the records of an accepted message are those of its fields
 pub closed : {out : List ℕ} {at : ℕ} {s : List ℕ} (f : Framable out at s) (n : ℕ) (t : List ℕ) {e count : ℕ} {t′ : List ℕ}
     → outcome (Accepted e count) t′ ≡ readEntry s 0 (length s) t → Closed out at n s t′ count
-unfolding readInto
+unfolding readInto marks
 closed {out} {at} {s} f n t {e} {count} {t′} a =
     let o = entry-open s 0 (length s) t (omega (arith, f .short)) (omega arith) (omega arith) in
-    let x = landed-accepts (length s) (messageFault s 0 (length s)) t (readMessage s 0 (length s)) e count t′ (a ∙ o) in
+    let ms = marks s 0 (length s) in
+    let x = landed-accepts (length s) (messageFault s 0 (length s)) t ms (readMessage s 0 (length s)) e count t′ (a ∙ o) in
+    let i : AllInside s (fieldsOf ms) = rw (marks-fields s 0 (length s) (x .0) (x .1)) (sized n s (x .0) (x .1) .inside) in
     record {
-      has = record { fields = x .0; rest = drop (recordWords * length (x .0)) t; listed = x .3; many = x .2; inside = sized n s (x .0) (x .1) .inside };
+      has =
+          record {
+            marks = ms;
+            rest = drop (recordWords * length ms) t;
+            listed = x .3;
+            many = x .2 ∙ sym (marks-count s 0 (length s) (x .0) (x .1));
+            inside = all-kept s 0 ms i (marks-rise (length s - 0) s (length s) 0 0);
+          };
       room = answer-room f n t a;
     }
 

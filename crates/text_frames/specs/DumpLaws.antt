@@ -37,7 +37,7 @@ prints-then {text = text} {text′ = text′} {n″ = n″} {ks″ = ks″} {res
 pub record Ready (line bytes table out : List ℕ) (used : ℕ) : Type 0 where
   pub chars : length line ≡ 4096
   pub byteRoom : 2048 ≤ length bytes
-  pub wordRoom : 4096 ≤ length table
+  pub wordRoom : 5120 ≤ length table
   pub inside : used ≤ length out
 
 -- since the buffer out₀ was used up to used₀, at line n₀ with ks₀ read and rest₀ ahead: a text was put, and this is where it stands

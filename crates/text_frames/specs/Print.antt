@@ -7,11 +7,12 @@ use lib.Dec.{leb}
 use lib.ListN.{length, take}
 use lib.Seq.{sets}
 use Rattle.wire.specs.Choose.{choose}
+use Rattle.wire.specs.Marks.{Mark, fieldsOf}
+use Rattle.wire.specs.MarkLaws.{Rising}
 use Rattle.wire.specs.Numbers.{numberOf}
 use Rattle.wire.specs.Places.{shown, itemOf, items}
 use Rattle.wire.specs.Written.{contentKind}
 use Rattle.wire.specs.Table.{fieldIn, records, fieldsFrom}
-use Rattle.wire.specs.declared.Field.{Field}
 use Rattle.wire.specs.declared.Read.{Read}
 use Rattle.wire.specs.declared.Read.the-variants.{Accepted, Refused}
 use Rattle.wire.specs.declared.Record.{Record}
@@ -80,23 +81,38 @@ module _ (out : List ℕ) (at n : ℕ) (line : List ℕ) (chars : ℕ) (bytes ta
 abbrev pub Roomy : List ℕ → ℕ → List ℕ → Type 0
 Roomy b at xs = at + length xs ≤ length b
 
--- there is room for a field's line, or for its value; its payload lies inside the message, and its kind is its content's
+-- a record as a field and the place of its key; both lie inside the message
+abbrev pub markIn : Record → Mark
+markIn r = record { key = r .key; field = fieldIn r }
+
+abbrev pub Kept : List ℕ → Mark → Type 0
+Kept s m = Inside s (m .field) × (m .key < length s)
+
+abbrev pub AllKept : List ℕ → List Mark → Type 0
+AllKept s [] = Unit {0}
+AllKept s (m ∷ ms) = Kept s m × AllKept s ms
+
+pub all-kept : (s : List ℕ) (last : ℕ) (ms : List Mark) → AllInside s (fieldsOf ms) → Rising (length s) last ms → AllKept s ms
+all-kept s last [] i h = tt
+all-kept s last (m ∷ ms) i h = ((i .0, h .2), all-kept s (m .field .tag) ms (i .1) (h .3))
+
+-- there is room for a field's line, or for its value; it lies inside the message, and its kind is its content's
 pub record Lined (out : List ℕ) (at : ℕ) (head s : List ℕ) (r : Record) : Type 0 where
   pub room : Roomy out at (fieldText head (itemOf s (fieldIn r)))
-  pub inside : Inside s (fieldIn r)
+  pub inside : Kept s (markIn r)
   pub kind : r .kind ≡ contentKind (shown s (fieldIn r .value))
 
 pub record Valued (out : List ℕ) (at : ℕ) (s : List ℕ) (r : Record) : Type 0 where
   pub room : Roomy out at (valueText (shown s (fieldIn r .value)))
-  pub inside : Inside s (fieldIn r)
+  pub inside : Kept s (markIn r)
 
--- so many records of a table are those of fields whose payloads lie inside
+-- so many records of a table are those of fields that lie inside
 pub record Recorded (s table : List ℕ) (count : ℕ) : Type 0 where
-  pub fields : List Field
+  pub marks : List Mark
   pub rest : List ℕ
-  pub listed : table ≡ records fields ++ rest
-  pub many : count ≡ length fields
-  pub inside : AllInside s fields
+  pub listed : table ≡ records marks ++ rest
+  pub many : count ≡ length marks
+  pub inside : AllKept s marks
 
 -- and there is room for their lines, or for these and a closing line
 pub record Listed (out : List ℕ) (at : ℕ) (head s table : List ℕ) (count : ℕ) : Type 0 where

@@ -9,11 +9,12 @@ use lib.Dec.{leb}
 use lib.ListN.{length, take, drop, length-append, length-take}
 use lib.Seq.{sets, take-at}
 use Rattle.wire.specs.Limits.{recordWords}
+use Rattle.wire.specs.Marks.{marks, marks-fields, marks-count}
 use Rattle.wire.specs.Numbers.{numberOf}
 use Rattle.wire.specs.Places.{items}
 use Rattle.wire.specs.Reading.{Message, Fields, readMessage}
 use Rattle.wire.specs.Reading as reading
-use Rattle.wire.specs.Table.{room, fields-records}
+use Rattle.wire.specs.Table.{room, filled, fieldsFrom, fields-records}
 use Rattle.wire.specs.declared.Refusal.{Refusal}
 use Rattle.wire.specs.declared.Field.{Field}
 use Rattle.fault.specs.Fault.{messageFault}
@@ -50,9 +51,13 @@ module _ (n : ℕ) (s t : List ℕ) (short : length s ≤ 2048) where
       → outcomeText n s (readEntry s 0 (length s) t) ≡ messageText n s (Fields fs)
   unfolding outcomeText
   text-accepted fs e h =
+      let ms = marks s 0 (length s) in
+      let u = filled t ms in
+      let end = told n wordOK (length fs ∷ length s ∷ []) in
       ap (outcomeText n s) (opened ∙ into-fits s 0 (length s) t fs e h)
-      ∙ ap (λ (l : List Field). fieldsText (headed n wordF) (items s l) ++ told n wordOK (length fs ∷ length s ∷ []))
-      (fields-records fs (drop (recordWords * length fs) t))
+      ∙ ap (λ (c : ℕ). fieldsText (headed n wordF) (items s (fieldsFrom c u 0)) ++ end) (sym (marks-count s 0 (length s) fs e))
+      ∙ ap (λ (l : List Field). fieldsText (headed n wordF) (items s l) ++ end)
+      (fields-records ms (drop (recordWords * length ms) t) ∙ marks-fields s 0 (length s) fs e)
 
   fields-size : (fs : List Field) → readMessage s 0 (length s) ≡ Fields fs → length (messageText n s (Fields fs)) ≤ frameRoom
   fields-size fs e =
@@ -78,7 +83,7 @@ module _ (n : ℕ) (s t : List ℕ) (short : length s ≤ 2048) where
           by false b = rw (text-no-room fs e (leb-false (length fs) (room t) b)) (omega (arith, told-four n wordNO 5 0 0 0))
 
   -- with room for every field it is the message's
-  pub outcome-text : 4096 ≤ length t → outcomeText n s (readEntry s 0 (length s) t) ≡ messageText n s (readMessage s 0 (length s))
+  pub outcome-text : 5120 ≤ length t → outcomeText n s (readEntry s 0 (length s) t) ≡ messageText n s (readMessage s 0 (length s))
   outcome-text h = go (readMessage s 0 (length s)) refl
     where
       go : (m : Message) → readMessage s 0 (length s) ≡ m → outcomeText n s (readEntry s 0 (length s) t) ≡ messageText n s (readMessage s 0 (length s))
@@ -107,7 +112,7 @@ module _ (out : List ℕ) (at n : ℕ) (line : List ℕ) (chars : ℕ) (bytes ta
           rw (print-frame out at n line chars bytes table h (o .answer) (o .out) refl) (frame-inside h (o .answer) (o .out) refl)
 
   -- THE TEXT OF A LINE: with a buffer for 4,096 characters, 2,048 bytes and 1,024 records, what is put is what the line's characters print
-  module _ (h : at + frameRoom ≤ length out) (full : length line ≡ 4096) (b : 2048 ≤ length bytes) (t : 4096 ≤ length table) where
+  module _ (h : at + frameRoom ≤ length out) (full : length line ≡ 4096) (b : 2048 ≤ length bytes) (t : 5120 ≤ length table) where
     abbrev Puts : List ℕ → Printing → Type 0
     Puts text o = (o .next ≡ at + length text) × (o .out ≡ sets out at text)
 

@@ -18,6 +18,7 @@ pub mod StepLaws
 pub mod StepBack
 pub mod Theorem
 pub mod Marks
+pub mod MarkLaws
 pub mod Table
 pub mod Only
 pub mod Cases

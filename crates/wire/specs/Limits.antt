@@ -7,4 +7,8 @@ messageLimit = 1048575
 
 -- Rule T1: the words of a record in a table
 abbrev pub recordWords : ℕ
-recordWords = 4
+recordWords = 5
+
+-- Rule T1: the key word of a record that was read from no key
+abbrev pub noKey : ℕ
+noKey = 0xffff_ffff_ffff_ffff

@@ -49,15 +49,16 @@ module _ (s : List ℕ) (e p last : ℕ) where
   marks-end zero h = refl
   marks-end (suc k) h = rw (le-ltb p e h)
 
--- each stands before the end, and whole fields follow one another: the bytes from a key to the next are the field's
-abbrev next : ℕ → List Mark → ℕ
+-- each stands before the end, and whole fields follow one another: a field is read from its key up to the next, and these bytes are the field's
+abbrev pub next : ℕ → List Mark → ℕ
 next e [] = e
 next e (m ∷ ms) = m .key
 
 abbrev pub Whole : List ℕ → ℕ → ℕ → ℕ → List Mark → Type 0
 Whole s e p last [] = p ≡ e
 Whole s e p last (m ∷ ms) =
-    (m .key ≡ p) × (p < e) × (part s p (next e ms) ≡ writtenItem last (itemOf s (m .field))) × Whole s e (next e ms) (m .field .tag) ms
+    (m .key ≡ p) × (p < e) × (fieldAt s e p last ≡ fieldFound.Got (m .field) (next e ms))
+    × (part s p (next e ms) ≡ writtenItem last (itemOf s (m .field))) × Whole s e (next e ms) (m .field .tag) ms
 
 -- ---- the fields of an accepted message
 
@@ -77,9 +78,16 @@ marks-read (suc k) s e m p last fs h r = go (λ f q gs. marks-read k s e p q (f 
         let v = field-moves s e p last f q y in
         ap fieldsOf (marks-turn s e p last k f q x y) ∙ ap (λ (l : List Field). f ∷ l) (ih f q gs (omega (arith, v .0)) z) ∙ sym w
 
+pub fields-count : (ms : List Mark) → length (fieldsOf ms) ≡ length ms
+fields-count [] = refl
+fields-count (m ∷ ms) = ap suc (fields-count ms)
+
 pub marks-fields : (s : List ℕ) (a e : ℕ) (fs : List Field) → readMessage s a e ≡ Fields fs → fieldsOf (marks s a e) ≡ fs
 unfolding readMessage marks
 marks-fields s a e fs r = marks-read (e - a) s e a a 0 fs (omega arith) r
+
+pub marks-count : (s : List ℕ) (a e : ℕ) (fs : List Field) → readMessage s a e ≡ Fields fs → length (marks s a e) ≡ length fs
+marks-count s a e fs r = sym (fields-count (marks s a e)) ∙ ap length (marks-fields s a e fs r)
 
 -- ---- whole fields: the next key is where the field ended
 
@@ -106,7 +114,7 @@ whole-read (suc k) s e m p last fs b h r = go (λ f q gs. whole-read k s e p q (
         let v = field-moves s e p last f q y in
         let i = ih f q gs (omega (arith, v .0)) z in
         let n = next-place s e q (f .tag) (marksFrom k s e q (f .tag)) i in
-        rw (marks-turn s e p last k f q x y, n) (refl, x, field-took s e p last f q b y .0, i)
+        rw (marks-turn s e p last k f q x y, n) (refl, x, y, field-took s e p last f q b y .0, i)
 
 pub marks-whole : (s : List ℕ) (a e : ℕ) (fs : List Field) → Bytes s → readMessage s a e ≡ Fields fs → Whole s e a 0 (marks s a e)
 unfolding readMessage marks

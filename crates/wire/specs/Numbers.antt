@@ -2,7 +2,7 @@
 use Prim.Native.Nat.{ℕ}
 use Rattle.wire.specs.declared.Refusal.{Refusal}
 use Rattle.wire.specs.declared.Refusal.the-variants.{Truncated, InvalidVarint, TagOverflowed, TooLong, NoRoom, BadRecord, OutOfOrder, BadCap}
-use Rattle.wire.specs.declared.Refusal.the-variants.{WrongWireType, OutOfRange, Repeated, BadIndex, MissingField}
+use Rattle.wire.specs.declared.Refusal.the-variants.{WrongWireType, OutOfRange, Repeated, BadIndex, MissingField, NotCanonical, UnknownField}
 use Rattle.wire.specs.declared.WireType.{WireType}
 use Rattle.wire.specs.declared.WireType.the-variants.{Varint, LengthDelimited, ThirtyTwoBit, SixtyFourBit}
 
@@ -21,6 +21,8 @@ numberOf OutOfRange = 10
 numberOf Repeated = 11
 numberOf BadIndex = 12
 numberOf MissingField = 13
+numberOf NotCanonical = 14
+numberOf UnknownField = 15
 
 -- Rule K2: of a wire type, its kind
 abbrev pub kindOf : WireType → ℕ

@@ -1,18 +1,20 @@
--- Tables: fields as records of four words, room, and which records are good (rules T1 to T4).
-use Prim.Native.Nat.{ℕ, zero, suc, _+_, _*_, _/_, _^_, _≤_}
+-- Tables: fields and the places of their keys as records of five words, room, and which records are good (rules T1 to T4).
+use Prim.Native.Nat.{ℕ, zero, suc, _+_, _*_, _/_, _^_, _≤_, _<_}
 use mathlib.Core.Path.{_≡_, refl, ap, _∙_}
 use mathlib.Core.Bool.{Bool, true, false}
 use mathlib.Core.List.{List, [], _∷_, _++_}
 use native.Mathlib.Omega.{arith}
-use borrow.Author.Tests.{leb-true}
+use borrow.Author.Tests.{leb-true, lt-ltb, le-ltb, eq-eqb, ne-eqb}
 use lib.Dec.{ltb, leb, eqb}
 use lib.ListN.{length, drop, getD}
 use Rattle.wire.specs.Choose.{choose}
-use Rattle.wire.specs.Limits.{recordWords}
+use Rattle.wire.specs.Limits.{recordWords, noKey}
+use Rattle.wire.specs.Marks.{Mark, fieldsOf}
 use Rattle.wire.specs.declared.Value.{Value}
 use Rattle.wire.specs.declared.Value.the-variants.{Varint, LengthDelimited, ThirtyTwoBit, SixtyFourBit}
 use Rattle.wire.specs.declared.Field.{Field}
 use Rattle.wire.specs.declared.Record.{Record}
+use Rattle.wire.specs.declared.NewRecord.{NewRecord}
 
 -- ---- a field as a record (rule T1)
 
@@ -34,17 +36,28 @@ lengthWord (LengthDelimited p n) = n
 lengthWord (ThirtyTwoBit v) = 4
 lengthWord (SixtyFourBit v) = 8
 
-abbrev pub recordOf : Field → Record
-recordOf f = record { tag = f .tag; kind = kindWord (f .value); value = valueWord (f .value); length = lengthWord (f .value) }
+abbrev pub recordOf : Mark → Record
+recordOf m =
+    record {
+      tag = m .field .tag;
+      kind = kindWord (m .field .value);
+      value = valueWord (m .field .value);
+      length = lengthWord (m .field .value);
+      key = m .key;
+    }
+
+-- a record that was read from no key
+abbrev pub stamped : NewRecord → Record
+stamped r = record { tag = r .tag; kind = r .kind; value = r .value; length = r .length; key = noKey }
 
 -- Rule T1: a record's words
 abbrev pub words : Record → List ℕ
-words r = r .tag ∷ r .kind ∷ r .value ∷ r .length ∷ []
+words r = r .tag ∷ r .kind ∷ r .value ∷ r .length ∷ r .key ∷ []
 
--- the words of a list of fields
-abbrev pub records : List Field → List ℕ
+-- the words of a list of fields with their keys
+abbrev pub records : List Mark → List ℕ
 records [] = []
-records (f ∷ fs) = words (recordOf f) ++ records fs
+records (m ∷ ms) = words (recordOf m) ++ records ms
 
 -- ---- a table
 
@@ -53,8 +66,8 @@ abbrev pub room : List ℕ → ℕ
 room t = length t / recordWords
 
 -- Rule T4: a table with the records of the fields, and the words after them as they were
-abbrev pub filled : List ℕ → List Field → List ℕ
-filled t fs = records fs ++ drop (recordWords * length fs) t
+abbrev pub filled : List ℕ → List Mark → List ℕ
+filled t ms = records ms ++ drop (recordWords * length ms) t
 
 -- record i
 unfoldable pub recordAt : List ℕ → ℕ → Record
@@ -64,6 +77,7 @@ recordAt t i =
       kind = getD t (recordWords * i + 1) 0;
       value = getD t (recordWords * i + 2) 0;
       length = getD t (recordWords * i + 3) 0;
+      key = getD t (recordWords * i + 4) 0;
     }
 
 -- Rule T1: the value of a record's words
@@ -82,7 +96,7 @@ abbrev pub fieldsFrom : ℕ → List ℕ → ℕ → List Field
 fieldsFrom zero t i = []
 fieldsFrom (suc k) t i = fieldIn (recordAt t i) ∷ fieldsFrom k t (suc i)
 
--- ---- a good record (rule T3), over a source of n bytes: the value and length words of each kind, then the tag
+-- ---- a good record (rule T3), over a source of n bytes: the value and length words of each kind; the tag and the key; then all
 
 unfoldable pub goodValue : ℕ → ℕ → ℕ → ℕ → Bool
 goodValue n zero v l = eqb l 0
@@ -96,8 +110,41 @@ pub payload-inside : (n v l : ℕ) → goodValue n 1 v l ≡ true → v + l ≤ 
 unfolding goodValue
 payload-inside n v l e = leb-true (v + l) n e
 
+-- a key's place is inside the source, or it is said that there is none
+unfoldable pub goodKey : ℕ → ℕ → Bool
+goodKey n k = choose (ltb k n) true (eqb k noKey)
+
+unfoldable pub goodHead : ℕ → ℕ → ℕ → Bool
+goodHead n tag key = choose (ltb tag (2 ^ 32)) (goodKey n key) false
+
 unfoldable pub good : ℕ → Record → Bool
-good n r = choose (ltb (r .tag) (2 ^ 32)) (goodValue n (r .kind) (r .value) (r .length)) false
+good n r = choose (goodHead n (r .tag) (r .key)) (goodValue n (r .kind) (r .value) (r .length)) false
+
+module _ (n k : ℕ) where
+  pub key-inside : k < n → goodKey n k ≡ true
+  unfolding goodKey
+  key-inside h = rw (lt-ltb k n h)
+
+  pub key-none : k ≡ noKey → goodKey n k ≡ true
+  unfolding goodKey
+  key-none e = go (ltb k n)
+    where
+      go : (b : Bool) → choose b true (eqb k noKey) ≡ true
+      go true = refl
+      go false = eq-eqb k noKey e
+
+  pub key-outside : n ≤ k → (k ≡ noKey → ⊥) → goodKey n k ≡ false
+  unfolding goodKey
+  key-outside h e = rw (le-ltb k n h, ne-eqb k noKey e)
+
+module _ (n tag key : ℕ) where
+  pub head-above : 2 ^ 32 ≤ tag → goodHead n tag key ≡ false
+  unfolding goodHead
+  head-above h = rw (le-ltb tag (2 ^ 32) h)
+
+  pub head-key : tag < 2 ^ 32 → goodHead n tag key ≡ goodKey n key
+  unfolding goodHead
+  head-key h = rw (lt-ltb tag (2 ^ 32) h)
 
 -- ---- THE RECORDS THAT WERE WRITTEN ARE THE FIELDS THAT THEY WERE
 
@@ -107,22 +154,22 @@ value-words (LengthDelimited p n) = refl
 value-words (ThirtyTwoBit v) = refl
 value-words (SixtyFourBit v) = refl
 
-pub length-records : (fs : List Field) → length (records fs) ≡ recordWords * length fs
+pub length-records : (ms : List Mark) → length (records ms) ≡ recordWords * length ms
 length-records [] = refl
-length-records (f ∷ fs) = omega (arith, length-records fs)
+length-records (m ∷ ms) = omega (arith, length-records ms)
 
 -- the record behind a first one
 word-behind : (r : Record) (t : List ℕ) (i k : ℕ) → getD (words r ++ t) (recordWords * suc i + k) 0 ≡ getD t (recordWords * i + k) 0
 word-behind r t i k =
-    let e : recordWords * suc i + k ≡ suc (suc (suc (suc (recordWords * i + k)))) = omega arith in
+    let e : recordWords * suc i + k ≡ suc (suc (suc (suc (suc (recordWords * i + k))))) = omega arith in
     rw e
 
 pub record-behind : (r : Record) (t : List ℕ) (i : ℕ) → recordAt (words r ++ t) (suc i) ≡ recordAt t i
 unfolding recordAt
 record-behind r t i =
-    let e : recordWords * suc i ≡ suc (suc (suc (suc (recordWords * i)))) = omega arith in
+    let e : recordWords * suc i ≡ suc (suc (suc (suc (suc (recordWords * i))))) = omega arith in
     let a : getD (words r ++ t) (recordWords * suc i) 0 ≡ getD t (recordWords * i) 0 = rw e in
-    rw (a, word-behind r t i 1, word-behind r t i 2, word-behind r t i 3)
+    rw (a, word-behind r t i 1, word-behind r t i 2, word-behind r t i 3, word-behind r t i 4)
 
 fields-behind : (k : ℕ) (r : Record) (t : List ℕ) (i : ℕ) → fieldsFrom k (words r ++ t) (suc i) ≡ fieldsFrom k t i
 fields-behind zero r t i = refl
@@ -132,8 +179,8 @@ pub record-first : (r : Record) (t : List ℕ) → recordAt (words r ++ t) 0 ≡
 unfolding recordAt
 record-first r t = refl
 
-pub fields-records : (fs : List Field) (t : List ℕ) → fieldsFrom (length fs) (records fs ++ t) 0 ≡ fs
+pub fields-records : (ms : List Mark) (t : List ℕ) → fieldsFrom (length ms) (records ms ++ t) 0 ≡ fieldsOf ms
 fields-records [] t = refl
-fields-records (f ∷ fs) t =
-    ap (λ (r : Record). fieldIn r ∷ fieldsFrom (length fs) (words (recordOf f) ++ (records fs ++ t)) 1) (record-first (recordOf f) (records fs ++ t))
-    ∙ rw (value-words (f .value), fields-behind (length fs) (recordOf f) (records fs ++ t) 0, fields-records fs t)
+fields-records (m ∷ ms) t =
+    ap (λ (r : Record). fieldIn r ∷ fieldsFrom (length ms) (words (recordOf m) ++ (records ms ++ t)) 1) (record-first (recordOf m) (records ms ++ t))
+    ∙ rw (value-words (m .field .value), fields-behind (length ms) (recordOf m) (records ms ++ t) 0, fields-records ms t)

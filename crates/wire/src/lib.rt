@@ -2,12 +2,16 @@
 // WireType, Value and Refusal are from src/encoding/mod.rs, opaque.rs and error.rs of bilrost.
 ghost use mathlib.Core.Path.{_≡_};
 ghost use Rattle.wire.specs.Numbers.{numberOf};
+ghost use Rattle.wire.specs.Table.{goodHead};
 
 // The longest slice that is read, and the longest message that is written.
 pub const MESSAGE_LIMIT: usize = 1_048_575;
 
 // The words of a record in a table.
-pub const RECORD_WORDS: usize = 4;
+pub const RECORD_WORDS: usize = 5;
+
+// The key word of a record that was read from no key.
+pub const NO_KEY: u64 = 0xffff_ffff_ffff_ffff;
 
 // The last tag that a field can have.
 pub const LAST_TAG: u64 = 0xffff_ffff;
@@ -37,8 +41,18 @@ pub struct Key {
     pub wire: WireType,
 }
 
-// A field as it stands in a table: its tag, its wire type's number (its kind), the number or the payload's start, the value's bytes (0 for a varint).
+// A field as it stands in a table: its tag, its wire type's number (its kind), the number or the payload's start, the value's bytes (0 for a varint),
+// and the place of its key or NO_KEY.
 pub struct Record {
+    pub tag: u64,
+    pub kind: u64,
+    pub value: u64,
+    pub length: u64,
+    pub key: u64,
+}
+
+// A record that is put in by hand: it has no key.
+pub struct NewRecord {
     pub tag: u64,
     pub kind: u64,
     pub value: u64,
@@ -65,6 +79,8 @@ pub enum Refusal {
     Repeated,
     MissingField,
     BadIndex,
+    NotCanonical,
+    UnknownField,
 }
 
 // Rule R1: the number of a refusal.
@@ -85,7 +101,25 @@ pub fn number_of(r: Refusal) -> u64
         Refusal::Repeated => 11,
         Refusal::BadIndex => 12,
         Refusal::MissingField => 13,
+        Refusal::NotCanonical => 14,
+        Refusal::UnknownField => 15,
     }
+}
+
+// Rule T3: the tag and the key of a good record over a source of so many bytes.
+pub fn good_head(len: usize, tag: u64, key: u64) -> bool
+    ensures { λ b. ⌜ b ≡ goodHead len tag key ⌝ }
+{
+    if LAST_TAG < tag {
+        return false;
+    }
+    if key < (len as u64) {
+        return true;
+    }
+    if key == NO_KEY {
+        return true;
+    }
+    false
 }
 
 // What a core finds at a place of a slice: something and the place after it, or why there is none.

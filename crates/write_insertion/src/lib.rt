@@ -7,9 +7,10 @@ ghost use lib.ListN.{length};
 ghost use lib.Seq.{sets};
 ghost use Rattle.wire.specs.Limits.{recordWords};
 ghost use Rattle.wire.specs.Places.{part};
-ghost use Rattle.wire.specs.Table.{words, room};
+ghost use Rattle.wire.specs.Table.{stamped, words, room};
 ghost use Rattle.write_insertion.specs.Insertion.{spot, aim, Insertion, inserts};
 use wire::Inserted;
+use wire::NewRecord;
 use wire::RECORD_WORDS;
 use wire::Record;
 use wire::Refusal;
@@ -44,30 +45,38 @@ fn put_between(table: &mut [u64], from: usize, to: usize, r: Record)
     table[from + 1] = r.kind;
     table[from + 2] = r.value;
     table[from + 3] = r.length;
+    table[from + 4] = r.key;
 }
 
-// The new record in its place, where no test refuses. The records are tested as the writers test them.
+// The new record, with no key, in its place, where no test refuses. The records are tested as the writers test them.
 pub fn insert_record(
     source: &[u8],
     table: &mut [u64],
     count: usize,
-    added: Record,
+    added: NewRecord,
     most: u32,
 ) -> Inserted
     ensures { λ r. ⌜
         record { answer = r; table = now (table .exit) }
-        ≡ inserts (now (table .entry)) count added (aim most (now (source .entry)) (now (table .entry)) count added)
+        ≡ inserts (now (table .entry)) count (stamped added) (aim most (now (source .entry)) (now (table .entry)) count (stamped added))
         ⌝ }
 {
+    let r = Record {
+        tag: added.tag,
+        kind: added.kind,
+        value: added.value,
+        length: added.length,
+        key: wire::NO_KEY,
+    };
     match write_message::weigh(source, table, count, most) {
         Weighed::First(why, i) => Inserted::Refused(why, i),
         Weighed::Left(_) => {
-            if write_record::is_good(source.len() as u32, added) {
+            if write_record::is_good(source.len() as u32, r) {
                 if count == table.len() / RECORD_WORDS {
                     return Inserted::Refused(Refusal::NoRoom, 0);
                 }
-                let p = find_spot(table, count, added.tag);
-                put_between(table, RECORD_WORDS * p, RECORD_WORDS * count, added);
+                let p = find_spot(table, count, r.tag);
+                put_between(table, RECORD_WORDS * p, RECORD_WORDS * count, r);
                 return Inserted::Count(count + 1);
             }
             Inserted::Refused(Refusal::BadRecord, count)

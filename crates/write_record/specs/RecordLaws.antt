@@ -17,7 +17,7 @@ use Rattle.wire.specs.VarintLength.{length-four}
 use Rattle.wire.specs.Fixed.{fixed}
 use Rattle.wire.specs.Written.{contentKind, writtenContent, writtenItem}
 use Rattle.wire.specs.Places.{shown, itemOf}
-use Rattle.wire.specs.Table.{recordAt, valueOf, fieldIn, goodValue, good}
+use Rattle.wire.specs.Table.{recordAt, valueOf, fieldIn, goodValue, goodKey, goodHead, good}
 use Rattle.write_record.specs.Records.{tagBefore, Judged, Fine, Bad, judge, Verdict, AllFine, First, andThen, tested, valueBytes, recordBytes}
 use Rattle.write_record.specs.Records.{valueSize, recordSize, weighValue, weigh, run, message}
 use Rattle.wire.specs.declared.Record.{Record}
@@ -46,20 +46,42 @@ value-sound n (suc (suc zero)) v l e = (omega arith, λ z. omega arith, λ z. lt
 value-sound n (suc (suc (suc zero))) v l e = (omega arith, λ z. omega arith, λ z. omega arith)
 value-sound n (suc (suc (suc (suc k)))) v l e = let z : _≡_ {A = ℕ} 0 1 = cc in absurd (omega arith)
 
+pub head-small : (n tag key : ℕ) → goodHead n tag key ≡ true → tag < 2 ^ 32
+unfolding goodHead
+head-small n tag key e = ltb-true tag (2 ^ 32) (both (ltb tag (2 ^ 32)) (goodKey n key) e .0)
+
 pub good-sound : (n : ℕ) (r : Record) → good n r ≡ true → Sound n r
 unfolding good
 good-sound n r e =
-    let b = both (ltb (r .tag) (2 ^ 32)) (goodValue n (r .kind) (r .value) (r .length)) e in
+    let b = both (goodHead n (r .tag) (r .key)) (goodValue n (r .kind) (r .value) (r .length)) e in
     let v = value-sound n (r .kind) (r .value) (r .length) (b .1) in
-    record { tag = ltb-true (r .tag) (2 ^ 32) (b .0); kind = v .0; payload = v .1; four = v .2 }
+    record { tag = head-small n (r .tag) (r .key) (b .0); kind = v .0; payload = v .1; four = v .2 }
 
-pub bad-tag : (n : ℕ) (r : Record) → 2 ^ 32 ≤ r .tag → good n r ≡ false
-unfolding good
-bad-tag n r h = simp (le-ltb (r .tag) (2 ^ 32) h)
+module _ (n : ℕ) (r : Record) where
+  pub bad-head : goodHead n (r .tag) (r .key) ≡ false → good n r ≡ false
+  unfolding good
+  bad-head e = simp e
 
-pub good-tag : (n : ℕ) (r : Record) → r .tag < 2 ^ 32 → good n r ≡ goodValue n (r .kind) (r .value) (r .length)
-unfolding good
-good-tag n r h = simp (lt-ltb (r .tag) (2 ^ 32) h)
+  pub good-head : goodHead n (r .tag) (r .key) ≡ true → good n r ≡ goodValue n (r .kind) (r .value) (r .length)
+  unfolding good
+  good-head e = simp e
+
+  -- the other way about
+  pub good-value : goodValue n (r .kind) (r .value) (r .length) ≡ true → good n r ≡ goodHead n (r .tag) (r .key)
+  unfolding good
+  good-value e = go (goodHead n (r .tag) (r .key))
+    where
+      go : (b : Bool) → choose b (goodValue n (r .kind) (r .value) (r .length)) false ≡ b
+      go true = e
+      go false = refl
+
+  pub bad-value : goodValue n (r .kind) (r .value) (r .length) ≡ false → good n r ≡ false
+  unfolding good
+  bad-value e = go (goodHead n (r .tag) (r .key))
+    where
+      go : (b : Bool) → choose b (goodValue n (r .kind) (r .value) (r .length)) false ≡ false
+      go true = e
+      go false = refl
 
 -- ---- what is said of a value, by its kind
 

@@ -14,7 +14,7 @@ use Rattle.wire.specs.declared.Record.{Record}
 
 -- all words 0
 abbrev pub noRecord : Record
-noRecord = record { tag = 0; kind = 0; value = 0; length = 0 }
+noRecord = record { tag = 0; kind = 0; value = 0; length = 0; key = 0 }
 
 -- Rules T1 and T2: record i, where the table has room for it
 unfoldable pub recordIn : List ℕ → ℕ → Record
@@ -41,4 +41,5 @@ record-front t k n i e h g =
       same (recordWords * i + 1) (omega arith),
       same (recordWords * i + 2) (omega arith),
       same (recordWords * i + 3) (omega arith),
+      same (recordWords * i + 4) (omega arith),
     )

@@ -6,7 +6,6 @@ ghost use Rattle.wire.specs.Varint.{encode};
 ghost use Rattle.wire.specs.Table.{good};
 ghost use Rattle.write_record.specs.Records.{weighValue, weigh};
 ghost use Rattle.write_record.specs.Taken.{recordIn};
-use wire::LAST_TAG;
 use wire::RECORD_WORDS;
 use wire::Record;
 use wire::Refusal;
@@ -24,6 +23,7 @@ pub fn record_at(table: &[u64], i: usize) -> Record
             kind: table[at + 1],
             value: table[at + 2],
             length: table[at + 3],
+            key: table[at + 4],
         };
     }
     Record {
@@ -31,10 +31,11 @@ pub fn record_at(table: &[u64], i: usize) -> Record
         kind: 0,
         value: 0,
         length: 0,
+        key: 0,
     }
 }
 
-// Most numbers are one byte.
+// A key: nearly all are one byte, so that the test is foreseen. Values are not: see `count_len`.
 fn number_len(v: u64) -> usize
     ensures { λ n. ⌜ n ≡ length (encode v) ⌝ }
 {
@@ -52,7 +53,7 @@ fn weigh_value(size: u32, kind: u64, value: u64, length: u64) -> Weight
     if kind < 2 {
         if kind == 0 {
             if length == 0 {
-                return Weight::Bytes(number_len(value));
+                return Weight::Bytes(varint_write::count_len(value));
             }
             return Weight::Bad(Refusal::BadRecord);
         }
@@ -60,7 +61,7 @@ fn weigh_value(size: u32, kind: u64, value: u64, length: u64) -> Weight
             return Weight::Bad(Refusal::BadRecord);
         }
         if length <= (size as u64) - value {
-            return Weight::Bytes(number_len(length) + length as usize);
+            return Weight::Bytes(varint_write::count_len(length) + length as usize);
         }
         return Weight::Bad(Refusal::BadRecord);
     }
@@ -86,11 +87,8 @@ fn weigh_value(size: u32, kind: u64, value: u64, length: u64) -> Weight
 pub fn is_good(size: u32, r: Record) -> bool
     ensures { λ b. ⌜ b ≡ good size r ⌝ }
 {
-    if LAST_TAG < r.tag {
-        return false;
-    }
     match weigh_value(size, r.kind, r.value, r.length) {
-        Weight::Bytes(_) => true,
+        Weight::Bytes(_) => wire::good_head(size as usize, r.tag, r.key),
         Weight::Bad(_) => false,
     }
 }
@@ -100,7 +98,7 @@ pub fn is_good(size: u32, r: Record) -> bool
 pub fn weigh_record(size: u32, prev: u64, r: Record) -> Weight
     ensures { λ w. ⌜ w ≡ weigh size prev r ⌝ }
 {
-    if LAST_TAG < r.tag {
+    if !wire::good_head(size as usize, r.tag, r.key) {
         return Weight::Bad(Refusal::BadRecord);
     }
     match weigh_value(size, r.kind, r.value, r.length) {

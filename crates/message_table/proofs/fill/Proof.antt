@@ -3,15 +3,15 @@ use mathlib.Core.Path.{_≡_, refl, _∙_}
 use native.Mathlib.Omega.{arith}
 use Prim.Native.Nat.{_-_}
 use lib.ListN.{length}
-use Rattle.wire.specs.Reading.{readMessage}
-use Rattle.message_table.specs.Into.{intoTable}
+use Rattle.wire.specs.Marks.{marks}
+use Rattle.wire.specs.Table.{filled}
 use Rattle.message_table.proofs.Filling.{Filling, Here, fill-start, here, varinted, valued, small, further, fill-turn, fill-end}
 use Rattle.message_table.proofs.fill.Statement.{statement}
 use Rattle.message_table.proofs.fill.Tie as tie
 
 abbrev Inv-loop : tie.InvT-loop
 Inv-loop s start end table₀ p₀ tag₀ i₀ table p tag i =
-    Filling s end (intoTable table₀ (readMessage s start end)) p tag i table × (length table ≡ length table₀)
+    Filling s end (filled table₀ (marks s start end)) p tag i table × (length table ≡ length table₀)
 
 abbrev μ-loop : tie.MeasureT-loop
 μ-loop s start end table₀ p₀ tag₀ i₀ table p tag i = end - p
@@ -23,7 +23,7 @@ loop-holds c =
 
 -- what stands at the place of a turn
 turn : (c : tie.In-loop Inv-loop μ-loop) → let l = c .before .loop in let a = c .before .before .before .before .args in
-    Here (a .s .now) (a .end) (intoTable (a .table .now) (readMessage (a .s .now) (a .start) (a .end))) (l .p) (l .tag) (l .i) (l .table)
+    Here (a .s .now) (a .end) (filled (a .table .now) (marks (a .s .now) (a .start) (a .end))) (l .p) (l .tag) (l .i) (l .table)
 turn c = here (c .before .loop .inv .0) (c .loop-test .taken)
 
 known-varint-requires : tie.Need-known-varint-requires Inv-loop μ-loop

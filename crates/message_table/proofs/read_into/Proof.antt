@@ -5,13 +5,14 @@ use Prim.Native.Nat.{ℕ}
 use mathlib.Core.List.{List}
 use lib.ListN.{length}
 use Rattle.wire.specs.Faults.{nowhere}
+use Rattle.wire.specs.Marks.{marks}
 use Rattle.wire.specs.Reading.{Fields, readMessage}
 use Rattle.wire.specs.Table.{filled}
 use Rattle.wire.specs.declared.Field.{Field}
 use Rattle.wire.specs.declared.Read.the-variants.{Accepted, Refused}
 use Rattle.wire.specs.declared.Refusal.the-variants.{NoRoom}
 use Rattle.message.specs.Deciding.{decided-fields, decided-refused}
-use Rattle.message_table.specs.Into.{outcome, intoTable, readInto, into-fault, into-no-room, into-fits}
+use Rattle.message_table.specs.Into.{outcome, readInto, into-fault, into-no-room, into-fits}
 use Rattle.message_table.specs.Second.{Fits}
 use borrow.Author.Needs.{needs}
 use Rattle.message_table.proofs.read_into.Statement.{statement}
@@ -23,8 +24,8 @@ decide-requires c κs = search needs
 enum-known-r : tie.Need-enum-known-r
 enum-known-r c = search needs
 
-fault-at-requires : tie.Need-fault-at-requires
-fault-at-requires c κs = search needs
+refused-requires : tie.Need-refused-requires
+refused-requires c κs = search needs
 
 enum-known-n : tie.Need-enum-known-n
 enum-known-n c = search needs
@@ -50,15 +51,15 @@ ready c =
 
 -- a table that was filled with them
 done : (c : tie.Else1) {u : List ℕ} → let a = c .before .before .before .before .before .before .before .args in
-    u ≡ intoTable (a .table .now) (readMessage (a .s .now) (a .start) (a .end))
+    u ≡ filled (a .table .now) (marks (a .s .now) (a .start) (a .end))
     → outcome (Accepted (a .end) (c .before .before .n .given .0 .0)) u ≡ readInto (a .s .now) (a .start) (a .end) (a .table .now)
 done c f =
     let a = c .before .before .before .before .before .before .before .args in
     let t = a .table .now in
     let x = counted (c .before) in
     let e = x .2 in
-    ap (outcome (Accepted (a .end) (c .before .before .n .given .0 .0))) (f ∙ ap (intoTable t) (x .1))
-    ∙ ap (λ (n : ℕ). outcome (Accepted (a .end) n) (filled t (x .0))) (sym e)
+    ap (outcome (Accepted (a .end) (c .before .before .n .given .0 .0))) f
+    ∙ ap (λ (n : ℕ). outcome (Accepted (a .end) n) (filled t (marks (a .s .now) (a .start) (a .end)))) (sym e)
     ∙ sym (into-fits _ _ _ t (x .0) (x .1) (omega arith))
 
 fill-requires : tie.Need-fill-requires
@@ -71,7 +72,7 @@ returns-2 : tie.Need-returns-2
 returns-2 c =
     let i = c .before .before .before .before in
     let a = i .before .before .before .before .before .before .before .before .args in
-    done (i .before) (c .before .before .fill .ensures ∙ ap (λ (p : ℕ). intoTable (a .table .now) (readMessage (a .s .now) p (a .end))) (sym (i .if2 .taken)))
+    done (i .before) (c .before .before .fill .ensures ∙ ap (λ (p : ℕ). filled (a .table .now) (marks (a .s .now) p (a .end))) (sym (i .if2 .taken)))
 
 fill-requires-2 : tie.Need-fill-requires-2
 fill-requires-2 c κs = ready (c .before .before)
@@ -80,7 +81,7 @@ returns-3 : tie.Need-returns-3
 returns-3 c =
     let d = c .before .before .before .before in
     let l = d .before .before in
-    into-fault _ _ _ _ (λ i. omega (arith, l .shared-slice-known .given i)) (c .fault-at .ensures)
+    into-fault _ _ _ _ (λ i. omega (arith, l .shared-slice-known .given i)) (c .refused .ensures)
     (decided-refused _ _ _ (sym (d .decide .ensures) ∙ c .before .before .r .given .1))
 
 same-length-2 : tie.Need-same-length-2
@@ -95,7 +96,7 @@ read-into-spec =
     (tie.spec
     decide-requires
     enum-known-r
-    fault-at-requires
+    refused-requires
     enum-known-n
     returns
     fill-requires

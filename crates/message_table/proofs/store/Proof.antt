@@ -1,4 +1,4 @@
--- Four stores in a row.
+-- Five stores in a row.
 use native.Mathlib.Omega.{arith}
 use native.Mathlib.Numerals.{towards-suc}
 use lib.ListN.{length-set}
@@ -39,6 +39,15 @@ mul-table-4 c = search needs
 slice-write-table-4 : tie.Need-slice-write-table-4
 slice-write-table-4 c = simp length-set (omega (arith, c .pre))
 
+add-table-4 : tie.Need-add-table-4
+add-table-4 c = search needs
+
+mul-table-5 : tie.Need-mul-table-5
+mul-table-5 c = search needs
+
+slice-write-table-5 : tie.Need-slice-write-table-5
+slice-write-table-5 c = simp length-set (omega (arith, c .pre))
+
 same-length : tie.Need-same-length
 same-length c = search needs
 
@@ -60,5 +69,8 @@ store-spec =
     add-table-3
     mul-table-4
     slice-write-table-4
+    add-table-4
+    mul-table-5
+    slice-write-table-5
     same-length
     returns)

@@ -70,8 +70,8 @@ mul-put-between-2 c = omega (arith, roomy (c .before .before .before))
 put-between-requires : tie.Need-put-between-requires
 put-between-requires c κs = (omega (arith, inside (c .before)), omega (arith, roomy (c .before .before .before)))
 
-add-t16 : tie.Need-add-t16
-add-t16 c = omega (arith, roomy (c .before .before .before .before .before .before))
+add-t17 : tie.Need-add-t17
+add-t17 c = omega (arith, roomy (c .before .before .before .before .before .before))
 
 same-length-2 : tie.Need-same-length-2
 same-length-2 c = search needs
@@ -115,7 +115,7 @@ insert-record-spec =
     mul-put-between
     mul-put-between-2
     put-between-requires
-    add-t16
+    add-t17
     same-length-2
     returns-2
     same-length-3

@@ -73,6 +73,15 @@ mul-table-6 c = search needs
 slice-write-table-5 : tie.Need-slice-write-table-5 Inv-loop μ-loop
 slice-write-table-5 c = let l = move-length (c .before .loop .inv) in simp length-set (omega (arith, c .before .before .pre .0, c .before .before .pre .1))
 
+add-table-5 : tie.Need-add-table-5 Inv-loop μ-loop
+add-table-5 c = search needs
+
+mul-table-7 : tie.Need-mul-table-7 Inv-loop μ-loop
+mul-table-7 c = search needs
+
+slice-write-table-6 : tie.Need-slice-write-table-6 Inv-loop μ-loop
+slice-write-table-6 c = let l = move-length (c .before .loop .inv) in simp length-set (omega (arith, c .before .before .pre .0, c .before .before .pre .1))
+
 same-length : tie.Need-same-length Inv-loop μ-loop
 same-length c = simp length-set (move-length (c .before .loop .inv))
 
@@ -105,5 +114,8 @@ put-between-spec =
     add-table-4
     mul-table-6
     slice-write-table-5
+    add-table-5
+    mul-table-7
+    slice-write-table-6
     same-length
     returns)

@@ -43,6 +43,15 @@ mul-t19 c = search needs
 shared-slice-read-t21 : tie.Need-shared-slice-read-t21
 shared-slice-read-t21 c = search needs
 
+add-t22 : tie.Need-add-t22
+add-t22 c = search needs
+
+mul-t23 : tie.Need-mul-t23
+mul-t23 c = search needs
+
+shared-slice-read-t25 : tie.Need-shared-slice-read-t25
+shared-slice-read-t25 c = search needs
+
 returns : tie.Need-returns
 unfolding recordAt
 returns c = sym (record-there _ _ (omega arith))
@@ -66,5 +75,8 @@ record-at-spec =
     add-t18
     mul-t19
     shared-slice-read-t21
+    add-t22
+    mul-t23
+    shared-slice-read-t25
     returns
     returns-2)

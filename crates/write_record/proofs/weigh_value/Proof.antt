@@ -7,11 +7,11 @@ use borrow.Author.Needs.{needs}
 use Rattle.write_record.proofs.weigh_value.Statement.{statement}
 use Rattle.write_record.proofs.weigh_value.Tie as tie
 
-number-len-requires : tie.Need-number-len-requires
-number-len-requires c κs = search needs
+count-len-requires : tie.Need-count-len-requires
+count-len-requires c κs = search needs
 
 returns : tie.Need-returns
-returns c = rw (c .number-len .ensures) (sym (value-number _ _ _ _ (c .before .before .if2 .taken) (c .before .if3 .taken)))
+returns c = rw (c .count-len .ensures) (sym (value-number _ _ _ _ (c .before .before .if2 .taken) (c .before .if3 .taken)))
 
 returns-2 : tie.Need-returns-2
 returns-2 c = sym (no-number _ _ _ _ (c .before .if2 .taken) (c .if3 .left))
@@ -22,20 +22,20 @@ returns-3 c = sym (no-payload _ _ _ _ (omega arith) (omega arith))
 sub-if5 : tie.Need-sub-if5
 sub-if5 c = search needs
 
-number-len-requires-2 : tie.Need-number-len-requires-2
-number-len-requires-2 c κs = search needs
+count-len-requires-2 : tie.Need-count-len-requires-2
+count-len-requires-2 c κs = search needs
 
 add-t15 : tie.Need-add-t15
 add-t15 c =
     omega (
       arith,
-      c .number-len2 .ensures,
+      c .count-len2 .ensures,
       length-le (c .before .before .before .before .before .args .length),
       c .before .before .before .before .before .fits .size .fits,
     )
 
 returns-4 : tie.Need-returns-4
-returns-4 c = rw (c .number-len2 .ensures) (sym (value-payload _ _ _ _ (omega arith) (omega arith)))
+returns-4 c = rw (c .count-len2 .ensures) (sym (value-payload _ _ _ _ (omega arith) (omega arith)))
 
 returns-5 : tie.Need-returns-5
 returns-5 c = sym (no-payload _ _ _ _ (omega arith) (omega arith))
@@ -62,12 +62,12 @@ pub weigh-value-spec : {M : Type 1} → statement M
 weigh-value-spec =
     tie.close
     (tie.spec
-    number-len-requires
+    count-len-requires
     returns
     returns-2
     returns-3
     sub-if5
-    number-len-requires-2
+    count-len-requires-2
     add-t15
     returns-4
     returns-5
