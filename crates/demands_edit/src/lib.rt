@@ -1,0 +1,1 @@
+// Working copies: theorems, no code.

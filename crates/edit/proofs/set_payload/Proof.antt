@@ -1,0 +1,52 @@
+-- Two words of a record.
+use native.Mathlib.Omega.{arith}
+use native.Mathlib.Numerals.{towards-suc}
+use lib.ListN.{length-set}
+use borrow.Author.Needs.{needs}
+use Rattle.edit.proofs.set_payload.Statement.{statement}
+use Rattle.edit.proofs.set_payload.Tie as tie
+
+mul-table : tie.Need-mul-table
+mul-table c = search needs
+
+add-table : tie.Need-add-table
+add-table c = search needs
+
+mul-table-2 : tie.Need-mul-table-2
+mul-table-2 c = search needs
+
+slice-write-table : tie.Need-slice-write-table
+slice-write-table c = search needs
+
+mul-table-3 : tie.Need-mul-table-3
+mul-table-3 c = search needs
+
+add-table-2 : tie.Need-add-table-2
+add-table-2 c = search needs
+
+mul-table-4 : tie.Need-mul-table-4
+mul-table-4 c = search needs
+
+slice-write-table-2 : tie.Need-slice-write-table-2
+slice-write-table-2 c = simp length-set (omega (arith, c .pre))
+
+same-length : tie.Need-same-length
+same-length c = search needs
+
+returns : tie.Need-returns
+returns c = simp towards-suc
+
+pub set-payload-spec : {M : Type 1} → statement M
+set-payload-spec =
+    tie.close
+    (tie.spec
+    mul-table
+    add-table
+    mul-table-2
+    slice-write-table
+    mul-table-3
+    add-table-2
+    mul-table-4
+    slice-write-table-2
+    same-length
+    returns)

@@ -1,0 +1,3 @@
+pub mod Edits
+pub mod EditLaws
+pub mod Cases
