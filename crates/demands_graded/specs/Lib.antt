@@ -1,0 +1,4 @@
+pub mod Grades
+pub mod GradedRules
+pub mod GradedVerdict
+pub mod GradedAllOnes

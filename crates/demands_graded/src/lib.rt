@@ -1,0 +1,1 @@
+// Soundings of the second edition: theorems, no code.
