@@ -2,6 +2,7 @@
 use mathlib.Core.Path.{_∙_, sym}
 use Rattle.wire.specs.Only.{One}
 use Rattle.c_words.specs.Words.{asNumber, asVarint, asRead, asKey, asValue, asPlace, asStep, asWritten, asPicked, asSeveral, asEarly, asSounding}
+use Rattle.c_words.specs.Words.{asPart, asSupplied}
 use Rattle.c_words.proofs.typed_of.Kinds as typed-of
 use Rattle.c_words.proofs.typed_of.Reads as typed-of-reads
 use Rattle.c_words.proofs.put_words.Kinds as put-words
@@ -38,6 +39,10 @@ use Rattle.c_words.proofs.run_count_words.Kinds as run-count-words
 use Rattle.c_words.proofs.run_count_words.Reads as run-count-words-reads
 use Rattle.c_words.proofs.run_value_words.Kinds as run-value-words
 use Rattle.c_words.proofs.run_value_words.Reads as run-value-words-reads
+use Rattle.c_words.proofs.supplier_words.Kinds as supplier-words
+use Rattle.c_words.proofs.supplier_words.Reads as supplier-words-reads
+use Rattle.c_words.proofs.supply_words.Kinds as supply-words
+use Rattle.c_words.proofs.supply_words.Reads as supply-words-reads
 
 pub typed-of-one : One 0 typed-of.ps typed-of.r typed-of-reads.Post (λ κs r s. r)
 typed-of-one κs a x y s t p q = p ∙ sym q
@@ -92,3 +97,9 @@ run-count-words-one κs a x y s t p q = p ∙ sym q
 
 pub run-value-words-one : One 0 run-value-words.ps run-value-words.r run-value-words-reads.Post (λ κs r s. asPicked r)
 run-value-words-one κs a x y s t p q = p ∙ sym q
+
+pub supplier-words-one : One 0 supplier-words.ps supplier-words.r supplier-words-reads.Post (λ κs r s. asSupplied r)
+supplier-words-one κs a x y s t p q = p ∙ sym q
+
+pub supply-words-one : One 0 supply-words.ps supply-words.r supply-words-reads.Post (λ κs r s. asPart r)
+supply-words-one κs a x y s t p q = p ∙ sym q

@@ -8,6 +8,7 @@ use Rattle.entry_answer.specs.Told as told
 use Rattle.entry_answer.specs.Told.{putTold, readTold, writtenTold, insertedTold, indexedTold, runCountTold}
 use Rattle.write_message.specs.Writing.{Writing}
 use Rattle.write_insertion.specs.Insertion.{Insertion}
+use Rattle.edit.specs.Edits.{Edit}
 use Rattle.entry_answer.specs.Stores.{Stored}
 use Rattle.wire.specs.Numbers.{numberOf}
 use Rattle.wire.specs.Table.{kindWord, valueWord, lengthWord}
@@ -17,6 +18,9 @@ use Rattle.wire.specs.declared.WireType.{WireType}
 use Rattle.wire.specs.declared.WireType.the-variants as wireType
 use Rattle.message_table.specs.Into.{Outcome}
 use Rattle.index.specs.Index as index
+use Rattle.correct_supply.specs.Supplying.{nowhere}
+use Rattle.correct_supply.specs.declared.Supply.{Supply}
+use Rattle.correct_supply.specs.declared.Supply.the-variants as supply
 use Rattle.run_read.specs.Runs as run
 use Rattle.message_payload.specs.declared.Span.{Span}
 use Rattle.sounding.specs.Told as soundings
@@ -29,6 +33,7 @@ use Rattle.c_words.specs.declared.PickWords.{PickWords}
 use Rattle.c_words.specs.declared.LookupWords.{LookupWords}
 use Rattle.c_words.specs.declared.Part.{Part}
 use Rattle.c_words.specs.declared.SoundingWords.{SoundingWords}
+use Rattle.c_words.specs.declared.SupplierWords.{SupplierWords}
 use Rattle.c_words.specs.declared.KeyWords.{KeyWords}
 use Rattle.c_words.specs.declared.ValueWords.{ValueWords}
 use Rattle.c_words.specs.declared.PlaceWords.{PlaceWords}
@@ -125,6 +130,19 @@ abbrev pub bitOf : Bool → ℕ
 bitOf true = 1
 bitOf false = 0
 
+-- what is told of an edit, and what the room and the table hold
+pub record Copied : Type 0 where
+  pub told : told.Number
+  pub room : List ℕ
+  pub table : List ℕ
+
+abbrev pub editTold : Edit → Copied
+editTold o = record { told = insertedTold (o .answer); room = o .room; table = o .table }
+
+pub copied : {t u : told.Number} {l m : List ℕ} {o : Copied} → t ≡ u → _≡_ {A = Copied} (record { told = u; room = l; table = m }) o
+    → _≡_ {A = Copied} (record { told = t; room = l; table = m }) o
+copied e f = rw e f
+
 -- a told answer in words, with what is lent beside it
 pub handed : {A : Type 0} {t u : A} {l : List ℕ} {o : Lent A} → t ≡ u → _≡_ {A = Lent A} (record { told = u; lent = l }) o
     → _≡_ {A = Lent A} (record { told = t; lent = l }) o
@@ -214,3 +232,15 @@ as-unknown u t f e = rw e
 pub as-known : {A : Type 0} (u : A) (t : Typed) (f : WireType → A) (w : WireType) → t ≡ Is w → typedAs u t f ≡ f w
 unfolding typedAs
 as-known u t f w e = rw e
+
+-- ---- corrections
+
+abbrev pub asSupplied : SupplierWords → told.Supplied
+asSupplied r = record { number = r .number; supplier = r .supplier }
+
+-- Rule G4: where the value of a tag stands in the message that supplies it; nowhere if none does
+abbrev pub placeOf : Supply → Span
+placeOf (supply.Original p) = p
+placeOf (supply.Correction p) = p
+placeOf supply.Absent = nowhere
+placeOf (supply.Refused r) = nowhere

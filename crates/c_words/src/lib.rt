@@ -3,10 +3,12 @@ ghost use mathlib.Core.Path.{_≡_};
 ghost use Rattle.wire.specs.Table.{kindWord, valueWord, lengthWord};
 ghost use Rattle.entry_answer.specs.Told.{putTold, varintTold, readTold, pickedTold, severalTold, earlyTold, keyLenTold, keyTold, valueTold};
 ghost use Rattle.entry_answer.specs.Told.{skippedTold, stepTold, writtenTold, insertedTold, indexedTold};
-ghost use Rattle.entry_answer.specs.Told.{runCountTold, runValueTold};
+ghost use Rattle.entry_answer.specs.Told.{runCountTold, runValueTold, supplierTold};
 ghost use Rattle.sounding.specs.Told.{soundingTold};
 ghost use Rattle.c_words.specs.Words.{asNumber, asVarint, asRead, asPicked, asSeveral, asEarly, asWritten, asKey, asValue, asPlace, asStep, asSounding};
+ghost use Rattle.c_words.specs.Words.{asPart, asSupplied, placeOf};
 ghost use Rattle.c_words.specs.Words.{typedOf, foundWords, noneWords, uncountedOf};
+use correct_supply::Supply;
 use entry_answer::Indexed;
 use entry_answer::KeyLength;
 use entry_answer::KeyRead;
@@ -17,6 +19,7 @@ use entry_answer::RunValue;
 use entry_answer::Several;
 use entry_answer::Skipped;
 use entry_answer::Step;
+use entry_answer::Supplier;
 use entry_answer::ValueRead;
 use entry_answer::VarintRead;
 use sounding::Sounding;
@@ -140,6 +143,13 @@ pub struct SoundingWords {
     pub levels: u64,
 }
 
+// Which message supplies a tag: 1 the original, 2 the correction, 0 none.
+#[repr(C)]
+pub struct SupplierWords {
+    pub number: u64,
+    pub supplier: u64,
+}
+
 // A kind's wire type, if it is one.
 pub fn typed_of(kind: u64) -> Typed
     ensures { λ r. ⌜ r ≡ typedOf kind ⌝ }
@@ -161,7 +171,7 @@ struct ValueParts {
     length: u64,
 }
 
-// A value as the last three words of its record.
+// A value as three words of its record: its kind, its value and its length.
 fn value_words(v: Value) -> ValueParts
     ensures { λ r. ⌜ (r .kind ≡ kindWord v) × (r .value ≡ valueWord v) × (r .length ≡ lengthWord v) ⌝ }
 {
@@ -552,5 +562,53 @@ pub fn run_value_words(x: RunValue) -> PickWords
         RunValue::Found(v) => uncounted(found_words(1, Field { tag: 0, value: v })),
         RunValue::Absent => uncounted(none_words(0, 0)),
         RunValue::Refused(r) => uncounted(none_words(wire::number_of(r), 0)),
+    }
+}
+
+// Which message supplies a tag.
+pub fn supplier_words(x: Supplier) -> SupplierWords
+    ensures { λ r. ⌜ asSupplied r ≡ supplierTold x ⌝ }
+{
+    match x {
+        Supplier::Original => SupplierWords {
+            number: 0,
+            supplier: 1,
+        },
+        Supplier::Correction => SupplierWords {
+            number: 0,
+            supplier: 2,
+        },
+        Supplier::Absent => SupplierWords {
+            number: 0,
+            supplier: 0,
+        },
+        Supplier::Refused(r) => SupplierWords {
+            number: wire::number_of(r),
+            supplier: 0,
+        },
+    }
+}
+
+// Where a tag's value stands in the message that supplies it.
+pub fn supply_words(x: Supply) -> Part
+    ensures { λ r. ⌜ asPart r ≡ placeOf x ⌝ }
+{
+    match x {
+        Supply::Original(p) => Part {
+            start: p.start as u64,
+            length: p.length as u64,
+        },
+        Supply::Correction(p) => Part {
+            start: p.start as u64,
+            length: p.length as u64,
+        },
+        Supply::Absent => Part {
+            start: 0,
+            length: 0,
+        },
+        Supply::Refused(_) => Part {
+            start: 0,
+            length: 0,
+        },
     }
 }

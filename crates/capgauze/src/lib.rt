@@ -12,6 +12,7 @@ pub use entry_answer::RunValue;
 pub use entry_answer::Several;
 pub use entry_answer::Skipped;
 pub use entry_answer::Step;
+pub use entry_answer::Supplier;
 pub use entry_answer::ValueRead;
 pub use entry_answer::VarintRead;
 pub use entry_copy::Copied;
@@ -19,11 +20,14 @@ pub use entry_reader::Counted;
 pub use entry_reader::Reader;
 pub use sounding::Head;
 pub use sounding::Sounding;
+pub use sounding_grade::Grade;
+pub use sounding_graded::Graded;
 pub use wire::Early;
 pub use wire::Fault;
 pub use wire::Field;
 pub use wire::Inserted;
 pub use wire::Key;
+pub use wire::NewRecord;
 pub use wire::Read;
 pub use wire::Record;
 pub use wire::Refusal;
@@ -87,9 +91,21 @@ pub use index_pick::pick_indexed;
 // ---- soundings
 pub use sounding::LEVEL_WORDS;
 pub use sounding::read_sounding;
+pub use sounding_graded::GRADED_WORDS;
+pub use sounding_graded::read_graded;
 
 // ---- packed runs
 pub use run_read::read_run;
 pub use run_read::run_count;
 pub use run_read::run_value;
 pub use run_write::write_run;
+
+// ---- corrections over an original
+pub use correct_supply::corrected_by;
+pub use correct_supply::corrected_part;
+pub use correct_write::write_corrected;
+
+// ---- a working copy
+pub use edit::insert_payload;
+pub use edit::remove_record;
+pub use edit::replace_payload;

@@ -4,7 +4,8 @@ use denote.Ref.{now}
 use Rattle.wire.specs.Only.{One}
 use Rattle.entry_answer.specs.Told as told
 use Rattle.sounding.specs.Told as soundings
-use Rattle.c_words.specs.Words.{Lent, asNumber, asVarint, asKey, asValue, asPlace, asStep, asRead, asPicked, asSeveral, asEarly, asPart, asWritten, asSounding}
+use Rattle.c_words.specs.Words.{Copied, Lent, asNumber, asVarint, asKey, asValue, asPlace, asStep, asRead, asPicked, asSeveral, asEarly, asPart, asWritten, asSounding}
+use Rattle.c_words.specs.Words.{asSupplied}
 use Rattle.capgauze_c.proofs.capgauze_encoded_len_varint.Kinds as encoded-len-varint
 use Rattle.capgauze_c.proofs.capgauze_encoded_len_varint.Reads as encoded-len-varint-reads
 use Rattle.capgauze_c.proofs.capgauze_i64_to_unsigned.Kinds as i64-to-unsigned
@@ -51,6 +52,10 @@ use Rattle.capgauze_c.proofs.capgauze_prepend_message.Kinds as prepend-
 use Rattle.capgauze_c.proofs.capgauze_prepend_message.Reads as prepend-message-reads
 use Rattle.capgauze_c.proofs.capgauze_insert.Kinds as insert
 use Rattle.capgauze_c.proofs.capgauze_insert.Reads as insert-reads
+use Rattle.sounding_graded.specs.Told.{GradedHeading}
+use Rattle.c_graded.specs.Words.{asGraded}
+use Rattle.capgauze_c.proofs.capgauze_read_graded.Kinds as read-graded
+use Rattle.capgauze_c.proofs.capgauze_read_graded.Reads as read-graded-reads
 use Rattle.capgauze_c.proofs.capgauze_read_sounding.Kinds as read-sounding
 use Rattle.capgauze_c.proofs.capgauze_read_sounding.Reads as read-sounding-reads
 use Rattle.capgauze_c.proofs.capgauze_make_index.Kinds as make-index
@@ -71,6 +76,18 @@ use Rattle.capgauze_c.proofs.capgauze_read_run.Kinds as read-run
 use Rattle.capgauze_c.proofs.capgauze_read_run.Reads as read-run-reads
 use Rattle.capgauze_c.proofs.capgauze_write_run.Kinds as write-run
 use Rattle.capgauze_c.proofs.capgauze_write_run.Reads as write-run-reads
+use Rattle.capgauze_c.proofs.capgauze_corrected_part.Kinds as corrected-part
+use Rattle.capgauze_c.proofs.capgauze_corrected_part.Reads as corrected-part-reads
+use Rattle.capgauze_c.proofs.capgauze_corrected_by.Kinds as corrected-by
+use Rattle.capgauze_c.proofs.capgauze_corrected_by.Reads as corrected-by-reads
+use Rattle.capgauze_c.proofs.capgauze_write_corrected.Kinds as write-corrected
+use Rattle.capgauze_c.proofs.capgauze_write_corrected.Reads as write-corrected-reads
+use Rattle.capgauze_c.proofs.capgauze_remove_record.Kinds as remove-record
+use Rattle.capgauze_c.proofs.capgauze_remove_record.Reads as remove-record-reads
+use Rattle.capgauze_c.proofs.capgauze_replace_payload.Kinds as replace-payload
+use Rattle.capgauze_c.proofs.capgauze_replace_payload.Reads as replace-payload-reads
+use Rattle.capgauze_c.proofs.capgauze_insert_payload.Kinds as insert-payload
+use Rattle.capgauze_c.proofs.capgauze_insert_payload.Reads as insert-payload-reads
 
 pub encoded-len-varint-one : One 0 encoded-len-varint.ps encoded-len-varint.r encoded-len-varint-reads.Post (λ κs r s. r)
 encoded-len-varint-one κs a x y s t p q = p ∙ sym q
@@ -126,7 +143,7 @@ pub payload-of-one : One 1 payload-of.ps payload-of.r payload-of-reads.Post (λ 
 payload-of-one κs a x y s t p q = p ∙ sym q
 
 pub read-payload-one : One 2 read-payload.ps read-payload.r read-payload-reads.Post {S = Lent told.Message}
-    (λ κs r s. record { told = asRead r; lent = now (s .1 .1 .1 .1 .1 .0) })
+    (λ κs r s. record { told = asRead r; lent = now (s .1 .1 .1 .1 .1 .1 .0) })
 read-payload-one κs a x y s t p q = p ∙ sym q
 
 pub pick-one : One 1 pick.ps pick.r pick-reads.Post (λ κs r s. asPicked r)
@@ -184,3 +201,29 @@ read-run-one κs a x y s t p q = p ∙ sym q
 pub write-run-one : One 3 write-run.ps write-run.r write-run-reads.Post {S = Lent told.Wrote}
     (λ κs r s. record { told = asWritten r; lent = now (s .1 .1 .1 .1 .0) })
 write-run-one κs a x y s t p q = p ∙ sym q
+
+pub corrected-part-one : One 2 corrected-part.ps corrected-part.r corrected-part-reads.Post (λ κs r s. asPart r)
+corrected-part-one κs a x y s t p q = p ∙ sym q
+
+pub corrected-by-one : One 2 corrected-by.ps corrected-by.r corrected-by-reads.Post (λ κs r s. asSupplied r)
+corrected-by-one κs a x y s t p q = p ∙ sym q
+
+pub write-corrected-one : One 3 write-corrected.ps write-corrected.r write-corrected-reads.Post {S = Lent told.Number}
+    (λ κs r s. record { told = asNumber r; lent = now (s .1 .1 .0) })
+write-corrected-one κs a x y s t p q = p ∙ sym q
+
+pub remove-record-one : One 2 remove-record.ps remove-record.r remove-record-reads.Post {S = Lent told.Number}
+    (λ κs r s. record { told = asNumber r; lent = now (s .1 .0) })
+remove-record-one κs a x y s t p q = p ∙ sym q
+
+pub replace-payload-one : One 3 replace-payload.ps replace-payload.r replace-payload-reads.Post {S = Copied}
+    (λ κs r s. record { told = asNumber r; room = now (s .0); table = now (s .1 .0) })
+replace-payload-one κs a x y s t p q = p ∙ sym q
+
+pub insert-payload-one : One 3 insert-payload.ps insert-payload.r insert-payload-reads.Post {S = Copied}
+    (λ κs r s. record { told = asNumber r; room = now (s .0); table = now (s .1 .0) })
+insert-payload-one κs a x y s t p q = p ∙ sym q
+
+pub read-graded-one : One 2 read-graded.ps read-graded.r read-graded-reads.Post {S = Lent GradedHeading}
+    (λ κs r s. record { told = asGraded r; lent = now (s .1 .0) })
+read-graded-one κs a x y s t p q = p ∙ sym q

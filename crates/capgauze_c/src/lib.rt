@@ -17,16 +17,25 @@ ghost use Rattle.entry_message.specs.Messages.{readEntry, readPayload, pickEntr
 ghost use Rattle.index_line.specs.Line.{writeLine, readEither};
 ghost use Rattle.index_make.specs.Made.{makeIndex, indexFits};
 ghost use Rattle.index_pick.specs.Looked.{pickIndexed};
-ghost use Rattle.entry_answer.specs.Told.{runCountTold, runValueTold};
+ghost use Rattle.entry_answer.specs.Told.{runCountTold, runValueTold, supplierTold};
+ghost use Rattle.correct_supply.specs.Supplying.{supplyOf, suppliedBy};
+ghost use Rattle.correct_write.specs.Corrected.{writeCorrected};
 ghost use Rattle.run_read.specs.Runs.{runCount, runValue, readRun};
 ghost use Rattle.run_write.specs.RunPlan.{writeRun};
+ghost use Rattle.edit.specs.Edits.{removeRecord, replacePayload, insertPayload};
 ghost use Rattle.sounding.specs.Told.{soundingTold};
 ghost use Rattle.sounding.specs.Words.{readSounding};
+ghost use Rattle.sounding_graded.specs.Words.{readGraded};
+ghost use Rattle.c_graded.specs.Words.{asGraded, gradeOf, gradedAs};
 ghost use Rattle.c_words.specs.Words.{Lent, asNumber, asVarint, asRead, asPicked, asSeveral, asEarly, asPart, asWritten, asKey, asValue, asPlace};
 ghost use Rattle.c_words.specs.Words.{asStep, asSounding};
 ghost use Rattle.c_words.specs.Words.{typedOf, keyStored, valueTyped, placeTyped, storedTold, outcomeTold, writingTold, insertionTold, levelsTold};
 ghost use Rattle.c_words.specs.Words.{indexTold, bitOf};
+ghost use Rattle.c_words.specs.Words.{asSupplied, placeOf};
 ghost use Rattle.c_words.specs.Words.{runTold, typedAs, badNumber, badPick, badWrote};
+ghost use Rattle.c_words.specs.Words.{Copied, editTold};
+use c_graded::GradedWords;
+use c_graded::Least;
 use c_words::KeyWords;
 use c_words::LookupWords;
 use c_words::Number;
@@ -36,11 +45,14 @@ use c_words::PlaceWords;
 use c_words::ReadWords;
 use c_words::SoundingWords;
 use c_words::StepWords;
+use c_words::SupplierWords;
 use c_words::Typed;
 use c_words::ValueWords;
 use c_words::Varint;
 use c_words::WrittenWords;
 use capgauze::Fault;
+use capgauze::Graded;
+use capgauze::NewRecord;
 use capgauze::Put;
 use capgauze::Record;
 use capgauze::Refusal;
@@ -209,14 +221,16 @@ pub extern "C" fn capgauze_payload_of(
     kind: u64,
     value: u64,
     length: u64,
+    key: u64,
 ) -> Part
-    ensures { λ r. ⌜ asPart r ≡ spanOf (size (now (s .entry))) (record { tag = tag; kind = kind; value = value; length = length }) ⌝ }
+    ensures { λ r. ⌜ asPart r ≡ spanOf (size (now (s .entry))) (record { tag = tag; kind = kind; value = value; length = length; key = key }) ⌝ }
 {
     let r = Record {
         tag: tag,
         kind: kind,
         value: value,
         length: length,
+        key: key,
     };
     let p = message_payload::payload_span(s.len(), r);
     Part {
@@ -234,11 +248,12 @@ pub extern "C" fn capgauze_read_payload(
     kind: u64,
     value: u64,
     length: u64,
+    key: u64,
     table: &mut [u64],
 ) -> ReadWords
     ensures { λ r. ⌜
         record { told = asRead r; lent = now (table .exit) }
-        ≡ outcomeTold (readPayload (now (s .entry)) (record { tag = tag; kind = kind; value = value; length = length }) (now (table .entry)))
+        ≡ outcomeTold (readPayload (now (s .entry)) (record { tag = tag; kind = kind; value = value; length = length; key = key }) (now (table .entry)))
         ⌝ }
 {
     let r = Record {
@@ -246,6 +261,7 @@ pub extern "C" fn capgauze_read_payload(
         kind: kind,
         value: value,
         length: length,
+        key: key,
     };
     let part = capgauze::payload_of(s, r);
     capgauze_read_message(part, 0, part.len(), table)
@@ -309,7 +325,7 @@ pub extern "C" fn capgauze_prepend_message(
     c_words::written_words(capgauze::prepend_message(source, table, count, buf))
 }
 
-// A new record behind all of an equal or lower tag.
+// A new record, with no key, behind all of an equal or lower tag.
 #[no_mangle]
 pub extern "C" fn capgauze_insert(
     source: &[u8],
@@ -325,7 +341,7 @@ pub extern "C" fn capgauze_insert(
         ≡ insertionTold (insertRecord (now (source .entry)) (now (table .entry)) count (record { tag = tag; kind = kind; value = value; length = length }))
         ⌝ }
 {
-    let r = Record {
+    let r = NewRecord {
         tag: tag,
         kind: kind,
         value: value,
@@ -390,6 +406,20 @@ pub extern "C" fn capgauze_read_sounding(s: &[u8], levels: &mut [u64]) -> Soundi
     c_words::sounding_words(capgauze::read_sounding(s, levels))
 }
 
+// A sounding of the second edition, with its levels in the table, nine words a level, if no field of it is below a grade.
+#[no_mangle]
+pub extern "C" fn capgauze_read_graded(s: &[u8], levels: &mut [u64], least: u64) -> GradedWords
+    ensures { λ r. ⌜
+        record { told = asGraded r; lent = now (levels .exit) }
+        ≡ gradedAs (now (levels .entry)) (gradeOf least) (λ g. readGraded (now (s .entry)) (now (levels .entry)) g)
+        ⌝ }
+{
+    let Least::Is(grade) = c_graded::grade_of(least) else {
+        return c_graded::graded_words(Graded::Refused(Refusal::BadRecord));
+    };
+    c_graded::graded_words(capgauze::read_graded(s, levels, grade))
+}
+
 // ---- packed runs
 
 // How many values of a type a slice is.
@@ -447,4 +477,93 @@ pub extern "C" fn capgauze_write_run(
         return c_words::written_words(Written::Refused(Refusal::BadRecord, 0, 0));
     };
     c_words::written_words(capgauze::write_run(source, table, count, wire, buf))
+}
+
+// ---- corrections over an original
+
+// Where the value of a tag stands, in the message that supplies it.
+#[no_mangle]
+pub extern "C" fn capgauze_corrected_part(original: &[u8], correction: &[u8], tag: u32) -> Part
+    ensures { λ r. ⌜ asPart r ≡ placeOf (supplyOf (now (original .entry)) (now (correction .entry)) tag) ⌝ }
+{
+    c_words::supply_words(correct_supply::supply_of(original, correction, tag))
+}
+
+// Which message that is.
+#[no_mangle]
+pub extern "C" fn capgauze_corrected_by(
+    original: &[u8],
+    correction: &[u8],
+    tag: u32,
+) -> SupplierWords
+    ensures { λ r. ⌜ asSupplied r ≡ supplierTold (suppliedBy (now (original .entry)) (now (correction .entry)) tag) ⌝ }
+{
+    c_words::supplier_words(capgauze::corrected_by(original, correction, tag))
+}
+
+// The original under a correction, as one message at the buffer's front.
+#[no_mangle]
+pub extern "C" fn capgauze_write_corrected(
+    original: &[u8],
+    correction: &[u8],
+    buf: &mut [u8],
+) -> Number
+    ensures { λ r. ⌜
+        record { told = asNumber r; lent = now (buf .exit) }
+        ≡ storedTold (writeCorrected (now (original .entry)) (now (correction .entry)) (now (buf .entry)))
+        ⌝ }
+{
+    c_words::put_words(capgauze::write_corrected(original, correction, buf))
+}
+
+// ---- a working copy
+
+// A record taken out.
+#[no_mangle]
+pub extern "C" fn capgauze_remove_record(
+    room: &[u8],
+    table: &mut [u64],
+    count: usize,
+    index: usize,
+) -> Number
+    ensures { λ r. ⌜
+        record { told = asNumber r; lent = now (table .exit) }
+        ≡ insertionTold (removeRecord (now (room .entry)) (now (table .entry)) count index)
+        ⌝ }
+{
+    c_words::inserted_words(capgauze::remove_record(room, table, count, index))
+}
+
+// Other bytes for a payload.
+#[no_mangle]
+pub extern "C" fn capgauze_replace_payload(
+    room: &mut [u8],
+    table: &mut [u64],
+    count: usize,
+    index: usize,
+    bytes: &[u8],
+) -> Number
+    ensures { λ r. ⌜
+        record { told = asNumber r; room = now (room .exit); table = now (table .exit) }
+        ≡ editTold (replacePayload (now (room .entry)) (now (table .entry)) count index (now (bytes .entry)))
+        ⌝ }
+{
+    c_words::inserted_words(capgauze::replace_payload(room, table, count, index, bytes))
+}
+
+// A payload put in behind all of an equal or lower tag.
+#[no_mangle]
+pub extern "C" fn capgauze_insert_payload(
+    room: &mut [u8],
+    table: &mut [u64],
+    count: usize,
+    tag: u32,
+    bytes: &[u8],
+) -> Number
+    ensures { λ r. ⌜
+        record { told = asNumber r; room = now (room .exit); table = now (table .exit) }
+        ≡ editTold (insertPayload (now (room .entry)) (now (table .entry)) count tag (now (bytes .entry)))
+        ⌝ }
+{
+    c_words::inserted_words(capgauze::insert_payload(room, table, count, tag, bytes))
 }

@@ -5,14 +5,17 @@
 
 -- what all share
 pub use Rattle.wire.proofs.Only.{number-of-one as wire-number-of-one}
+pub use Rattle.wire.proofs.Only.{good-head-one as wire-good-head-one}
 -- bytes put at a place
 pub use Rattle.place.proofs.Only.{put-part-one as place-put-part-one}
+pub use Rattle.place.proofs.Only.{put-bytes-one as place-put-bytes-one}
 pub use Rattle.place.proofs.Only.{put-fixed-one as place-put-fixed-one}
 -- varints
 pub use Rattle.varint_write.proofs.Only.{varint-limit-one as varint-varint-limit-one}
 pub use Rattle.varint_write.proofs.Only.{encoded-len-varint-one as varint-encoded-len-varint-one}
 pub use Rattle.varint_read.proofs.Only.{decode-varint-one as varint-read-decode-varint-one}
 pub use Rattle.varint_read.proofs.Only.{decode-varint-capped-one as varint-read-decode-varint-capped-one}
+pub use Rattle.varint_write.proofs.Only.{count-len-one as varint-count-len-one}
 pub use Rattle.varint_write.proofs.Only.{put-varint-one as varint-put-varint-one}
 pub use Rattle.varint_write.proofs.Only.{prepend-varint-one as varint-prepend-varint-one}
 pub use Rattle.varint_signed.proofs.Only.{i64-to-unsigned-one as signed-i64-to-unsigned-one}
@@ -113,7 +116,14 @@ pub use Rattle.sounding_value.proofs.Only.{need-one as single-need-one}
 pub use Rattle.sounding_value.proofs.Only.{limit-one as single-limit-one}
 pub use Rattle.sounding_value.proofs.Only.{measure-one as single-measure-one}
 -- soundings
+pub use Rattle.sounding_note.proofs.Only.{another-one as note-another-one, next-number-one as note-next-number-one, number-of-tag-one as note-number-of-tag-one}
 pub use Rattle.sounding.proofs.Only.{read-sounding-one as sounding-read-sounding-one}
+-- soundings of the second edition
+pub use Rattle.sounding_grade.proofs.Only.{join-one as grade-join-one, reached-one as grade-reached-one, gate-one as grade-gate-one}
+pub use Rattle.sounding_grade.proofs.Only.{values-flaws-one as grade-values-flaws-one, level-flaw-one as grade-level-flaw-one}
+pub use Rattle.sounding_grade.proofs.Only.{head-flaw-one as grade-head-flaw-one}
+pub use Rattle.sounding_wind.proofs.Only.{read-windy-one as wind-read-windy-one}
+pub use Rattle.sounding_graded.proofs.Only.{read-graded-one as graded-read-graded-one}
 -- soundings as text
 pub use Rattle.sounding_text.proofs.Only.{put-sounding-one as columns-put-sounding-one}
 -- the face for C
@@ -162,12 +172,24 @@ pub use Rattle.capgauze_c.proofs.Only.{encode-message-one as c-encode-message-o
 pub use Rattle.capgauze_c.proofs.Only.{prepend-message-one as c-prepend-message-one}
 pub use Rattle.capgauze_c.proofs.Only.{insert-one as c-insert-one}
 pub use Rattle.capgauze_c.proofs.Only.{read-sounding-one as c-read-sounding-one}
+pub use Rattle.c_graded.proofs.Only.{grade-of-one as c-grade-of-one, grade-number-one as c-grade-number-one, graded-words-one as c-graded-words-one}
+pub use Rattle.capgauze_c.proofs.Only.{read-graded-one as c-read-graded-one}
 pub use Rattle.stream_orders.proofs.Only.{argument-of-one as stream-argument-of-one}
 pub use Rattle.stream_orders.proofs.Only.{no-orders-one as stream-no-orders-one}
 pub use Rattle.stream_orders.proofs.Only.{ordered-one as stream-ordered-one}
 pub use Rattle.stream_orders.proofs.Only.{count-one-one as stream-count-one-one}
+pub use Rattle.correct_supply.proofs.Only.{supply-of-one, corrected-by-one, corrected-part-one}
+pub use Rattle.correct_write.proofs.Only.{write-corrected-one}
+pub use Rattle.c_words.proofs.Only.{supplier-words-one as c-supplier-words-one, supply-words-one as c-supply-words-one}
+pub use Rattle.capgauze_c.proofs.Only.{corrected-part-one as c-corrected-part-one, corrected-by-one as c-corrected-by-one}
+pub use Rattle.capgauze_c.proofs.Only.{write-corrected-one as c-write-corrected-one}
 pub use Rattle.run_read.proofs.Only.{run-count-one, run-value-one, read-run-one}
 pub use Rattle.run_write.proofs.Only.{write-run-one}
 pub use Rattle.c_words.proofs.Only.{run-count-words-one as c-run-count-words-one, run-value-words-one as c-run-value-words-one}
 pub use Rattle.capgauze_c.proofs.Only.{run-count-one as c-run-count-one, run-value-one as c-run-value-one}
 pub use Rattle.capgauze_c.proofs.Only.{read-run-one as c-read-run-one, write-run-one as c-write-run-one}
+pub use Rattle.edit_live.proofs.Only.{span-at-one, last-end-one, spare-one, is-nearer-one, next-live-one, first-overlap-one, first-keyed-one}
+pub use Rattle.edit_pack.proofs.Only.{pack-one}
+pub use Rattle.edit.proofs.Only.{remove-record-one, replace-payload-one, insert-payload-one}
+pub use Rattle.capgauze_c.proofs.Only.{remove-record-one as c-remove-record-one, replace-payload-one as c-replace-payload-one}
+pub use Rattle.capgauze_c.proofs.Only.{insert-payload-one as c-insert-payload-one}

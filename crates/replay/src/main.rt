@@ -25,7 +25,7 @@ use messages::ask_write;
 
 const SOURCE_ROOM: usize = 1_048_576;
 
-const TABLE_ROOM: usize = 131_072;
+const TABLE_ROOM: usize = 163_840;
 
 // The longest buffer that a message is written into.
 const BUFFER_ROOM: usize = 1_048_640;
@@ -140,8 +140,9 @@ fn asked_by(letter: u8) -> usize {
         | letter::STEP_AT
         | letter::READ_MESSAGE
         | letter::READ_MESSAGE_SUM => 3,
-        letter::PAYLOAD_OF | letter::ENCODE_KEY | letter::PREPEND_KEY => 4,
-        letter::READ_PAYLOAD | letter::INSERT => 5,
+        letter::ENCODE_KEY | letter::PREPEND_KEY => 4,
+        letter::PAYLOAD_OF | letter::INSERT => 5,
+        letter::READ_PAYLOAD => 6,
         _ => BAD,
     }
 }
@@ -150,7 +151,7 @@ fn asked_by(letter: u8) -> usize {
 fn table_for(letter: u8, words: &Words, now: usize) -> usize {
     match letter {
         letter::READ_MESSAGE | letter::READ_MESSAGE_SUM => words[2] as usize,
-        letter::READ_PAYLOAD => words[4] as usize,
+        letter::READ_PAYLOAD => words[5] as usize,
         _ => now,
     }
 }

@@ -82,7 +82,15 @@ pub(crate) fn ask_read(
 ) -> usize {
     blank(table);
     if letter == letter::READ_PAYLOAD {
-        let r = capgauze_c::capgauze_read_payload(s, words[0], words[1], words[2], words[3], table);
+        let r = capgauze_c::capgauze_read_payload(
+            s,
+            words[0],
+            words[1],
+            words[2],
+            words[3],
+            words[4],
+            table,
+        );
         return read_told(letter, r, table, ours);
     }
     let r = capgauze_c::capgauze_read_message(s, words[0] as usize, words[1] as usize, table);
@@ -90,7 +98,7 @@ pub(crate) fn ask_read(
 }
 
 pub(crate) fn ask_payload(s: &[u8], words: &Words, ours: &mut Words) -> usize {
-    let r = capgauze_c::capgauze_payload_of(s, words[0], words[1], words[2], words[3]);
+    let r = capgauze_c::capgauze_payload_of(s, words[0], words[1], words[2], words[3], words[4]);
     lent::two(ours, r.start, r.length)
 }
 

@@ -7,7 +7,7 @@ use Rattle.replay.proofs.replay.Tie as tie
 
 abbrev Inv-loop : tie.InvT-loop
 Inv-loop fd line₀ source₀ table₀ buf₀ block₀ st₀ turns₀ line source table buf block st turns =
-    (length line ≡ 4096) × (length source ≡ 1048576) × (length table ≡ 131072) × (length buf ≡ 1048640) × (length block ≡ 4096)
+    (length line ≡ 4096) × (length source ≡ 1048576) × (length table ≡ 163840) × (length buf ≡ 1048640) × (length block ≡ 4096)
 
 abbrev μ-loop : tie.MeasureT-loop
 μ-loop fd line₀ source₀ table₀ buf₀ block₀ st₀ turns₀ line source table buf block st turns = turns
@@ -19,7 +19,7 @@ loop-holds : tie.Need-loop-holds Inv-loop μ-loop
 loop-holds c = (
   length-replicate {A = ℕ} 4096 0,
   length-replicate {A = ℕ} 1048576 0,
-  length-replicate {A = ℕ} 131072 0,
+  length-replicate {A = ℕ} 163840 0,
   length-replicate {A = ℕ} 1048640 0,
   length-replicate {A = ℕ} 4096 0,
 )

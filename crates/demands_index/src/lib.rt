@@ -1,0 +1,1 @@
+// An index and its line: theorems, no code.

@@ -1,0 +1,1 @@
+// Records that know their key, and a cap beside a cut: theorems, no code.

@@ -1,0 +1,9 @@
+pub mod Reading
+pub mod Writing
+pub mod Inserting
+pub mod Lengths
+pub mod Needed
+pub mod Cases
+pub mod Early
+pub mod Faults
+pub mod FaultsEach

@@ -1,0 +1,9 @@
+pub mod Calls
+pub mod Refusals
+pub mod Cores
+pub mod Order
+pub mod Rules
+pub mod RulesLaws
+pub mod Entries
+pub mod Verdicts
+pub mod Formats

@@ -1,0 +1,4 @@
+pub mod SoundingRules
+pub mod SoundingVerdict
+pub mod VerdictsC
+pub mod AllOnesAlone

@@ -1,0 +1,1 @@
+// Soundings, and every export to C: theorems, no code.
