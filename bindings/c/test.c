@@ -114,16 +114,19 @@ static void parts(void) {
 
 static void messages(void) {
     use("04FFFEFEFEFEFEFEFEFE0902C0DE0201000000");
-    lay(13, 0);
+    lay(16, 0);
     SAME(capgauze_read_message(S, 0, len, TABLE), 0, 19, 3, 0, 0);
-    TABLE_IS(1, 0, UINT64_MAX, 0, 3, 1, 12, 2, 3, 2, 1, 4, 77);
-    lay(11, 0);
+    TABLE_IS(1, 0, UINT64_MAX, 0, 0, 3, 1, 12, 2, 10, 3, 2, 1, 4, 14, 77);
+    lay(16, 0);
+    SAME(capgauze_read_message(S, 10, len, TABLE), 0, 19, 2, 0, 0); /* places count in the slice */
+    TABLE_IS(2, 1, 12, 2, 10, 2, 2, 1, 4, 14, 77, 77, 77, 77, 77, 77);
+    lay(14, 0);
     SAME(capgauze_read_message(S, 0, len, TABLE), 5, 0, 3, 0, 0);
     SAME(capgauze_read_message(S, 0, 18, TABLE), 1, 14, 0, 15, 0);
     SAME(capgauze_read_message(S, 0, 13, TABLE), 1, 10, 0, 11, 0);
     SAME(capgauze_read_message(S, 0, 5, TABLE), 1, 0, 0, 10, 0); /* the end was passed */
     SAME(capgauze_read_message(S, 0, 20, TABLE), 8, 0, 0, 0, 0);
-    TABLE_IS(77, 77, 77, 77, 77, 77, 77, 77, 77, 77, 77);
+    TABLE_IS(77, 77, 77, 77, 77, 77, 77, 77, 77, 77, 77, 77, 77, 77);
     SAME(capgauze_pick(S, 3), 11, 0, 0, 0, 0);
     SAME(capgauze_pick(S, 1), 0, 1, 0, UINT64_MAX, 0);
     SAME(capgauze_pick(S, 2), 0, 0, 0, 0, 0);
@@ -143,19 +146,25 @@ static void messages(void) {
     SAME(capgauze_pick(S, 1), 1, 0, 0, 0, 0);
     SAME(capgauze_pick_at(S, 1, 0), 1, 0, 0, 0, 0, 0);
     use("0000050504000100");
-    SAME(capgauze_payload_of(S, 0, 1, 4, 3), 4, 3);
-    SAME(capgauze_payload_of(S, 0, 0, 4, 0), 0, 0);
-    SAME(capgauze_payload_of(S, 0, 1, UINT64_MAX, 2), 0, 0);
-    lay(4, 0);
-    SAME(capgauze_read_payload(S, 0, 1, 4, 2, TABLE), 0, 2, 1, 0, 0); /* 04 00 */
-    TABLE_IS(1, 0, 0, 0);
-    SAME(capgauze_read_payload(S, 0, 1, 4, 3, TABLE), 1, 2, 0, 3, 0); /* and 01 */
-    SAME(capgauze_read_payload(S, 0, 0, 4, 0, TABLE), 0, 0, 0, 0, 0);
+    SAME(capgauze_payload_of(S, 0, 1, 4, 3, 2), 4, 3);
+    SAME(capgauze_payload_of(S, 0, 1, 4, 3, 7), 4, 3); /* no key stands there */
+    SAME(capgauze_payload_of(S, 0, 1, 4, 3, 8), 0, 0); /* the source's end */
+    SAME(capgauze_payload_of(S, 0, 1, 4, 3, UINT64_MAX - 1), 0, 0);
+    SAME(capgauze_payload_of(S, 0, 1, 4, 3, CAPGAUZE_NO_KEY), 4, 3);
+    SAME(capgauze_payload_of(S, 0, 0, 4, 0, 2), 0, 0);
+    SAME(capgauze_payload_of(S, 0, 1, UINT64_MAX, 2, 2), 0, 0);
+    lay(5, 0);
+    SAME(capgauze_read_payload(S, 0, 1, 4, 2, 2, TABLE), 0, 2, 1, 0, 0); /* 04 00 */
+    TABLE_IS(1, 0, 0, 0, 0); /* its key counts in the payload */
+    SAME(capgauze_read_payload(S, 0, 1, 4, 3, 2, TABLE), 1, 2, 0, 3, 0); /* and 01 */
+    SAME(capgauze_read_payload(S, 0, 1, 4, 3, 8, TABLE), 0, 0, 0, 0, 0); /* a bad key: no payload */
+    SAME(capgauze_read_payload(S, 0, 0, 4, 0, 2, TABLE), 0, 0, 0, 0, 0);
     len = CAPGAUZE_LIMIT + 1;
     bytes = lend(len);
     SAME(capgauze_read_message(S, 0, 0, TABLE), 4, 0, 0, 0, 0);
     SAME(capgauze_pick(S, 0), 4, 0, 0, 0, 0);
-    SAME(capgauze_payload_of(S, 0, 1, 0, len), 0, len);
+    SAME(capgauze_payload_of(S, 0, 1, 0, len, len - 1), 0, len);
+    SAME(capgauze_payload_of(S, 0, 1, 0, len, len), 0, 0);
 }
 
 static void writing(void) {
@@ -175,7 +184,7 @@ static void writing(void) {
     SAME(capgauze_key_len(1, 0), 7, 0);
 
     use("C0DE");
-    lay(13, (const uint64_t[]){1, 0, UINT64_MAX, 0, 3, 1, 0, 2, 3, 2, 1, 4, 77});
+    lay(16, (const uint64_t[]){1, 0, UINT64_MAX, 0, CAPGAUZE_NO_KEY, 3, 1, 0, 2, 0, 3, 2, 1, 4, 1, 77});
     room(21);
     SAME(capgauze_prepend_message(S, TABLE, 3, BUF), 0, 2, 19);
     BUF_IS("A5A504FFFEFEFEFEFEFEFEFE0902C0DE0201000000");
@@ -190,14 +199,21 @@ static void writing(void) {
     SAME(capgauze_encode_message(S, TABLE, 3, BUF), 5, 0, 19);
     SAME(capgauze_prepend_message(S, TABLE, 2, BUF), 5, 0, 14);
     SAME(capgauze_encode_message(S, TABLE, 0, BUF), 0, 0, 0);
+    table[9] = 2; /* a key at the source's end, and one past it */
+    SAME(capgauze_encode_message(S, TABLE, 3, BUF), 6, 1, 0);
+    SAME(capgauze_prepend_message(S, TABLE, 3, BUF), 6, 1, 0);
+    SAME(capgauze_encode_message(S, TABLE, 1, BUF), 5, 0, 10);
+    table[9] = UINT64_MAX - 1;
+    SAME(capgauze_encode_message(S, TABLE, 3, BUF), 6, 1, 0);
+    SAME(capgauze_insert(S, TABLE, 2, 0, 0, 0, 0), 6, 1);
 
-    lay(9, (const uint64_t[]){1, 0, 5, 0, 77, 77, 77, 77, 77});
+    lay(11, (const uint64_t[]){1, 0, 5, 0, 1, 77, 77, 77, 77, 77, 77});
     SAME(capgauze_insert(S, TABLE, 1, 0, 1, 0, 2), 0, 2);
-    TABLE_IS(0, 1, 0, 2, 1, 0, 5, 0, 77);
+    TABLE_IS(0, 1, 0, 2, CAPGAUZE_NO_KEY, 1, 0, 5, 0, 1, 77);
     SAME(capgauze_insert(S, TABLE, 2, 0, 1, 0, 2), 5, 0);
     SAME(capgauze_insert(S, TABLE, 2, 0, 1, 0, 3), 6, 2);
     SAME(capgauze_insert(S, TABLE, 3, 0, 0, 0, 0), 6, 2);
-    TABLE_IS(0, 1, 0, 2, 1, 0, 5, 0, 77);
+    TABLE_IS(0, 1, 0, 2, CAPGAUZE_NO_KEY, 1, 0, 5, 0, 1, 77);
 }
 
 /* The index that is lent next: tag, place and count of each of its entries. */
@@ -471,6 +487,308 @@ static void read_lines(void) {
     SAME(capgauze_read_line(S, 65536, TABLE), 12, 0);
 }
 
+/* ---- Corrections: the slice is the original, and beside it lies the correction ---- */
+
+static uint8_t *other;
+static size_t other_len;
+static void over(const char *original, const char *correction) {
+    use(correction);
+    other = bytes, other_len = len;
+    use(original);
+}
+#define C other, other_len
+#define BY(tag) capgauze_corrected_by(S, C, tag)
+#define PART(tag) capgauze_corrected_part(S, C, tag)
+#define WRITE() capgauze_write_corrected(S, C, BUF)
+
+/* What the writer answers, and the buffer then. */
+static void wrote(int line, uint64_t number, uint64_t value, const char *then) {
+    const uint64_t want[] = {number, value};
+    const capgauze_number got = WRITE();
+    same(line, "write_corrected", &got, sizeof got, want, sizeof want);
+    buf_is(line, then);
+}
+
+/* The result in a buffer with a byte to spare, in one that it fills, applied again, and in one that is a byte short. */
+static void corrected(int line, const char *original, const char *correction, const char *want) {
+    const size_t length = strlen(want) / 2;
+    char spare[256], none[256] = "";
+    over(original, correction);
+    room(length + 1);
+    wrote(line, 0, length, strcat(strcpy(spare, want), "A5"));
+    room(length);
+    wrote(line, 0, length, want);
+    if (length > len + other_len) failures++, printf("test.c:%d: longer than both\n", line);
+    bytes = buf, len = buf_len;
+    room(length);
+    wrote(line, 0, length, want);
+    if (!length) return;
+    over(original, correction);
+    room(length - 1);
+    for (size_t i = 1; i < length; i++) strcat(none, "A5");
+    wrote(line, 5, 0, none);
+}
+#define CORRECTED(original, correction, want) corrected(__LINE__, original, correction, want)
+
+static void corrections(void) {
+    CORRECTED("", "", "");
+    CORRECTED("0005", "", "0005");
+    CORRECTED("", "0005", "0005");
+    /* all fields of a tag are replaced, many by one and one by many */
+    CORRECTED("00000000", "0005", "0005");
+    CORRECTED("0005", "00000000", "00000000");
+    CORRECTED("000104020403", "04070008", "0001040700080403");
+    /* keys are written anew where the two meet, and get shorter */
+    CORRECTED("00010802", "0405", "000104050402");
+    CORRECTED("0405", "00010802", "000104050402");
+    CORRECTED("8000010402", "0600000000", "06000000007C010402");
+    CORRECTED("FCFEFEFE3E00", "0407", "0407F8FEFEFE3E00");
+    CORRECTED("0407", "FCFEFEFE3E00", "0407F8FEFEFE3E00");
+    /* one type by another */
+    CORRECTED("04050902C0DE0601020304", "0D00", "040509000601020304");
+    CORRECTED("04050902C0DE0601020304", "0C8000", "04050880000601020304");
+}
+
+static void suppliers(void) {
+    over("000104020403", "04070008");
+    SAME(BY(0), 0, CAPGAUZE_FROM_ORIGINAL);
+    SAME(PART(0), 1, 1);
+    SAME(BY(1), 11, 0); /* twice in the correction, though once in the original */
+    SAME(PART(1), 0, 0);
+    SAME(BY(2), 0, CAPGAUZE_FROM_ORIGINAL);
+    SAME(PART(2), 5, 1);
+    SAME(BY(3), 0, CAPGAUZE_FROM_NONE);
+    SAME(PART(3), 0, 0);
+    over("00000000", "0005"); /* twice in the original, once in the correction */
+    SAME(BY(0), 0, CAPGAUZE_FROM_CORRECTION);
+    SAME(PART(0), 1, 1);
+    over("00000000", "0405");
+    SAME(BY(0), 11, 0);
+    SAME(BY(1), 0, CAPGAUZE_FROM_CORRECTION);
+    over("", "");
+    SAME(BY(0), 0, 0);
+    SAME(PART(0), 0, 0);
+    /* an empty payload is no absence: its part has its own start */
+    over("0100", "");
+    SAME(BY(0), 0, CAPGAUZE_FROM_ORIGINAL);
+    SAME(PART(0), 2, 0);
+    over("0902C0DE", "0900");
+    SAME(BY(2), 0, CAPGAUZE_FROM_CORRECTION);
+    SAME(PART(2), 2, 0);
+    /* bytes as they stand: a varint's all, a payload's without its length, four, eight */
+    over("048000", "");
+    SAME(PART(1), 1, 2);
+    over("0902C0DE0601020304070102030405060708", "");
+    SAME(PART(2), 2, 2);
+    SAME(PART(3), 5, 4);
+    SAME(PART(4), 10, 8);
+    over("", "0902C0DE0601020304070102030405060708");
+    SAME(BY(4), 0, CAPGAUZE_FROM_CORRECTION);
+    SAME(PART(4), 10, 8);
+    /* the highest tag */
+    over("FCFEFEFE3E07", "0001");
+    SAME(BY(4294967295), 0, CAPGAUZE_FROM_ORIGINAL);
+    SAME(PART(4294967295), 5, 1);
+    /* one and the same memory */
+    use("000104020403");
+    SAME(capgauze_corrected_by(S, S, 1), 0, CAPGAUZE_FROM_CORRECTION);
+    SAME(capgauze_corrected_part(S, S, 1), 3, 1);
+    room(6);
+    SAME(capgauze_write_corrected(S, S, BUF), 0, 6);
+    BUF_IS("000104020403");
+}
+
+/* Both lookups and the writer of one pair, whatever the tag, into any room. */
+static void refused(int line, const char *original, const char *correction, uint64_t number) {
+    const uint64_t want[] = {number, 0}, none[] = {0, 0};
+    over(original, correction);
+    for (uint32_t tag = 0; tag < 3; tag++) {
+        const capgauze_supplier by = BY(tag);
+        same(line, "corrected_by", &by, sizeof by, want, sizeof want);
+        const capgauze_part part = PART(tag);
+        same(line, "corrected_part", &part, sizeof part, none, sizeof none);
+    }
+    for (size_t n = 0; n < 3; n++) {
+        room(n);
+        wrote(line, number, 0, &"A5A5"[4 - 2 * n]);
+    }
+}
+#define REFUSED(original, correction, number) refused(__LINE__, original, correction, number)
+#define INVALID "80FFFEFEFEFEFEFEFE"
+#define OVERFLOWED "80FFFEFE3E00"
+
+static void bad_corrections(void) {
+    REFUSED("00", "", 1);
+    REFUSED("", "00", 1);
+    REFUSED(INVALID, "", 2);
+    REFUSED("", INVALID, 2);
+    REFUSED(OVERFLOWED, "", 3);
+    REFUSED("", OVERFLOWED, 3);
+    REFUSED("0000000000", "", 1); /* before Repeated, which needs the whole message */
+    REFUSED("", "0000000000", 1);
+    REFUSED("00000000", "00", 1);
+    REFUSED("00", INVALID, 1);    /* the original's first */
+    REFUSED(INVALID, "00", 2);
+    REFUSED(OVERFLOWED, INVALID, 3);
+    /* one byte over the limit, beside what is refused otherwise */
+    over("00", "");
+    other_len = CAPGAUZE_LIMIT + 1;
+    other = lend(other_len);
+    room(1);
+    SAME(BY(0), 1, 0);
+    SAME(WRITE(), 1, 0);
+    use("");
+    SAME(BY(0), 4, 0);
+    SAME(PART(0), 0, 0);
+    SAME(WRITE(), 4, 0);
+    len = CAPGAUZE_LIMIT + 1;
+    bytes = lend(len);
+    SAME(BY(0), 4, 0);
+    other_len = 1; /* 00 */
+    SAME(BY(0), 4, 0);
+    SAME(WRITE(), 4, 0);
+    BUF_IS("A5");
+}
+
+/* ---- Packed runs ---- */
+
+#define COUNT(type) capgauze_run_count(S, type)
+#define AT(type, number) capgauze_run_value(S, type, number)
+#define RUN(type) capgauze_read_run(S, type, TABLE)
+#define PACK(count, type) capgauze_write_run(S, TABLE, count, type, BUF)
+
+static void runs(void) {
+    for (uint64_t type = 0; type < 4; type++) { /* no bytes are the empty run of every type */
+        use("");
+        lay(0, 0);
+        room(0);
+        SAME(COUNT(type), 0, 0);
+        SAME(AT(type, 0), 0, 0, 0, 0, 0);
+        SAME(RUN(type), 0, 0);
+        SAME(PACK(0, type), 0, 0, 0);
+    }
+    use("058000FFFEFEFEFEFEFEFEFE");
+    SAME(COUNT(CAPGAUZE_VARINT), 0, 3);
+    SAME(AT(CAPGAUZE_VARINT, 0), 0, 1, 0, 5, 0);
+    SAME(AT(CAPGAUZE_VARINT, 1), 0, 1, 0, 128, 0);
+    SAME(AT(CAPGAUZE_VARINT, 2), 0, 1, 0, UINT64_MAX, 0);
+    SAME(AT(CAPGAUZE_VARINT, 3), 0, 0, 0, 0, 0);
+    SAME(AT(CAPGAUZE_VARINT, SIZE_MAX), 0, 0, 0, 0, 0);
+    lay(16, 0);
+    SAME(RUN(CAPGAUZE_VARINT), 0, 3);
+    TABLE_IS(0, 0, 5, 0, CAPGAUZE_NO_KEY, 0, 0, 128, 0, CAPGAUZE_NO_KEY, 0, 0, UINT64_MAX, 0, CAPGAUZE_NO_KEY, 77);
+    room(13);
+    SAME(PACK(3, CAPGAUZE_VARINT), 0, 0, 12);
+    BUF_IS("058000FFFEFEFEFEFEFEFEFEA5");
+    SAME(COUNT(CAPGAUZE_THIRTY_TWO_BIT), 0, 3);
+    SAME(AT(CAPGAUZE_THIRTY_TWO_BIT, 0), 0, 1, 2, 0xFF008005, 4);
+    SAME(COUNT(CAPGAUZE_SIXTY_FOUR_BIT), 1, 0); /* twelve bytes */
+    lay(16, 0);
+    SAME(RUN(CAPGAUZE_THIRTY_TWO_BIT), 0, 3);
+    TABLE_IS(0, 2, 0xFF008005, 4, CAPGAUZE_NO_KEY, 0, 2, 0xFEFEFEFE, 4, CAPGAUZE_NO_KEY, 0, 2, 0xFEFEFEFE, 4, CAPGAUZE_NO_KEY, 77);
+    use("01AA00");
+    SAME(COUNT(CAPGAUZE_LENGTH_DELIMITED), 0, 2);
+    SAME(AT(CAPGAUZE_LENGTH_DELIMITED, 0), 0, 1, 1, 1, 1);
+    SAME(AT(CAPGAUZE_LENGTH_DELIMITED, 1), 0, 1, 1, 3, 0);
+    lay(10, 0);
+    SAME(RUN(CAPGAUZE_LENGTH_DELIMITED), 0, 2);
+    TABLE_IS(0, 1, 1, 1, CAPGAUZE_NO_KEY, 0, 1, 3, 0, CAPGAUZE_NO_KEY);
+    room(3);
+    SAME(PACK(2, CAPGAUZE_LENGTH_DELIMITED), 0, 0, 3);
+    BUF_IS("01AA00");
+    use("0807060504030201");
+    SAME(AT(CAPGAUZE_SIXTY_FOUR_BIT, 0), 0, 1, 3, 0x0102030405060708, 8);
+    lay(5, 0);
+    SAME(RUN(CAPGAUZE_SIXTY_FOUR_BIT), 0, 1);
+    TABLE_IS(0, 3, 0x0102030405060708, 8, CAPGAUZE_NO_KEY);
+    room(8);
+    SAME(PACK(1, CAPGAUZE_SIXTY_FOUR_BIT), 0, 0, 8);
+    BUF_IS("0807060504030201");
+}
+
+/* A run that is refused, whichever value is asked for, and whatever the table. */
+static void no_run(int line, const char *hex, uint64_t type, uint64_t number) {
+    const uint64_t want[] = {number, 0, 0, 0, 0};
+    use(hex);
+    const capgauze_number count = COUNT(type);
+    same(line, "run_count", &count, sizeof count, want, sizeof count);
+    for (size_t n = 0; n < 4; n++) {
+        const capgauze_picked at = AT(type, n);
+        same(line, "run_value", &at, sizeof at, want, sizeof at);
+        lay(CAPGAUZE_RECORD_WORDS * n, 0);
+        const capgauze_number read = RUN(type);
+        same(line, "read_run", &read, sizeof read, want, sizeof read);
+        for (size_t i = 0; i < words; i++)
+            if (table[i] != 77) failures++, printf("test.c:%d: word %zu changed\n", line, i);
+    }
+}
+#define NO_RUN(hex, type, number) no_run(__LINE__, hex, type, number)
+
+static void bad_runs(void) {
+    NO_RUN("80", CAPGAUZE_VARINT, 1);
+    NO_RUN("FFFFFFFFFFFFFFFFFF", CAPGAUZE_VARINT, 2);
+    NO_RUN("0080", CAPGAUZE_VARINT, 1); /* a good value before it */
+    NO_RUN("00" INVALID "80", CAPGAUZE_VARINT, 2);
+    NO_RUN("0002AA", CAPGAUZE_LENGTH_DELIMITED, 1);
+    NO_RUN(INVALID, CAPGAUZE_LENGTH_DELIMITED, 2);
+    NO_RUN("000000", CAPGAUZE_THIRTY_TWO_BIT, 1);
+    NO_RUN("0000000000", CAPGAUZE_THIRTY_TWO_BIT, 1);
+    NO_RUN("00000000", CAPGAUZE_SIXTY_FOUR_BIT, 1);
+    NO_RUN("", 4, 6);
+    NO_RUN("80", UINT64_MAX, 6);
+    use("0005");
+    lay(9, 0);
+    SAME(RUN(CAPGAUZE_VARINT), 5, 0);
+    TABLE_IS(77, 77, 77, 77, 77, 77, 77, 77, 77);
+    SAME(AT(CAPGAUZE_VARINT, 1), 0, 1, 0, 5, 0);
+    len = CAPGAUZE_LIMIT + 1;
+    bytes = lend(len);
+    for (uint64_t type = 0; type < 5; type++) {
+        SAME(COUNT(type), type < 4 ? 4 : 6, 0);
+        SAME(AT(type, 0), type < 4 ? 4 : 6, 0, 0, 0, 0);
+        SAME(RUN(type), type < 4 ? 4 : 6, 0);
+    }
+    TABLE_IS(77, 77, 77, 77, 77, 77, 77, 77, 77);
+}
+
+static void bad_packing(void) {
+    use("C0DE");
+    room(4);
+    lay(11, (const uint64_t[]){0, 1, 0, 2, 1, 0, 1, 1, 0, CAPGAUZE_NO_KEY, 77});
+    SAME(PACK(2, CAPGAUZE_LENGTH_DELIMITED), 0, 0, 4);
+    BUF_IS("02C0DE00");
+    room(3);
+    SAME(PACK(2, CAPGAUZE_LENGTH_DELIMITED), 5, 0, 4); /* the length needed */
+    SAME(PACK(3, CAPGAUZE_LENGTH_DELIMITED), 6, 2, 0); /* the room */
+    SAME(PACK(SIZE_MAX, CAPGAUZE_LENGTH_DELIMITED), 6, 2, 0);
+    SAME(PACK(2, CAPGAUZE_VARINT), 6, 0, 0); /* another type */
+    SAME(PACK(2, 4), 6, 0, 0);
+    SAME(PACK(3, 4), 6, 0, 0); /* no wire type: before the room */
+    lay(10, (const uint64_t[]){0, 0, 5, 0, 0, 1, 0, 5, 0, 0});
+    SAME(PACK(2, CAPGAUZE_VARINT), 6, 1, 0); /* good, of the type, with tag 1 */
+    SAME(PACK(1, CAPGAUZE_VARINT), 0, 0, 1);
+    BUF_IS("05A5A5");
+    lay(10, (const uint64_t[]){0, 0, 5, 0, 0, 0, 0, 5, 1, 0});
+    SAME(PACK(2, CAPGAUZE_VARINT), 6, 1, 0);
+    lay(10, (const uint64_t[]){0, 0, 5, 0, 0, 0, 0, 5, 0, 2});
+    SAME(PACK(2, CAPGAUZE_VARINT), 6, 1, 0); /* a key at the source's end */
+    lay(10, (const uint64_t[]){0, 1, 0, 2, 0, 0, 1, 1, 2, 0});
+    SAME(PACK(2, CAPGAUZE_LENGTH_DELIMITED), 6, 1, 0); /* outside the source */
+    lay(5, (const uint64_t[]){0, 2, 4294967296, 4, 0});
+    SAME(PACK(1, CAPGAUZE_THIRTY_TWO_BIT), 6, 0, 0);
+    lay(5, (const uint64_t[]){4294967296, 0, 0, 0, 0});
+    SAME(PACK(1, CAPGAUZE_VARINT), 6, 0, 0);
+    BUF_IS("05A5A5");
+    room(0); /* measured by a buffer of no bytes */
+    lay(5, (const uint64_t[]){0, 3, 1, 8, 1});
+    SAME(PACK(1, CAPGAUZE_SIXTY_FOUR_BIT), 5, 0, 8);
+    len = CAPGAUZE_LIMIT + 1;
+    bytes = lend(len);
+    SAME(PACK(0, CAPGAUZE_VARINT), 4, 0, 0);
+    SAME(PACK(2, CAPGAUZE_VARINT), 4, 0, 0); /* before the room */
+    SAME(PACK(2, 4), 6, 0, 0);
+}
+
 static void soundings(void) {
     use("04010400050E0464040304FFFEFEFEFEFEFEFEFE");
     lay(6, (const uint64_t[]){77, 77, 77, 77, 77, 77});
@@ -493,6 +811,338 @@ static void soundings(void) {
     TABLE_IS(77, 77, 77, 77);
 }
 
+/* ---- A working copy: the buffer is its room, the slice the new bytes ---- */
+
+#define NUMBER(tag, value) tag, CAPGAUZE_VARINT, value, 0, CAPGAUZE_NO_KEY
+#define PAYLOAD(tag, start, length) tag, CAPGAUZE_LENGTH_DELIMITED, start, length, CAPGAUZE_NO_KEY
+#define ROWS(...) lay(sizeof(const uint64_t[]){__VA_ARGS__} / 8, (const uint64_t[]){__VA_ARGS__})
+#define FREE 77, 77, 77, 77, 77
+#define REMOVE(count, index) capgauze_remove_record(BUF, TABLE, count, index)
+#define REPLACE(count, index) capgauze_replace_payload(BUF, TABLE, count, index, S)
+#define ADD(count, tag) capgauze_insert_payload(BUF, TABLE, count, tag, S)
+
+static void stock(const char *hex) {
+    use(hex);
+    room(len);
+    memcpy(buf, bytes, len);
+}
+
+/* The message of the first records. */
+static void message_is(int line, size_t count, const char *want) {
+    char got[256] = "";
+    uint8_t out[120];
+    const capgauze_written w = capgauze_encode_message(BUF, TABLE, count, out, sizeof out);
+    for (size_t i = 0; i < w.length; i++) sprintf(got + 2 * i, "%02X", out[i]);
+    calls++;
+    if (w.number || strcmp(got, want)) failures++, printf("test.c:%d: the message is %s, not %s\n", line, got, want);
+}
+#define MESSAGE_IS(count, want) message_is(__LINE__, count, want)
+
+static void removals(void) {
+    stock("AABBCC");
+    ROWS(PAYLOAD(1, 0, 2), NUMBER(1, 9), PAYLOAD(3, 2, 1), 77);
+    SAME(REMOVE(3, 1), 0, 2);
+    TABLE_IS(PAYLOAD(1, 0, 2), PAYLOAD(3, 2, 1), PAYLOAD(3, 2, 1), 77); /* the old last record stays */
+    MESSAGE_IS(2, "0502AABB0901CC");
+    SAME(REMOVE(2, 2), 6, 2);
+    SAME(REMOVE(2, SIZE_MAX), 6, UINT64_MAX);
+    SAME(REMOVE(2, 0), 0, 1);
+    SAME(REMOVE(1, 0), 0, 0);
+    SAME(REMOVE(0, 0), 6, 0);
+    TABLE_IS(PAYLOAD(3, 2, 1), PAYLOAD(3, 2, 1), PAYLOAD(3, 2, 1), 77);
+    BUF_IS("AABBCC");
+}
+
+static void replacements(void) {
+    /* behind the last payload, which is the other one */
+    stock("AABBCC000000");
+    ROWS(PAYLOAD(1, 0, 2), PAYLOAD(3, 2, 1), 77);
+    use("DDEEFF");
+    SAME(REPLACE(2, 0), 0, 2);
+    TABLE_IS(PAYLOAD(1, 3, 3), PAYLOAD(3, 2, 1), 77);
+    BUF_IS("AABBCCDDEEFF");
+    MESSAGE_IS(2, "0503DDEEFF0901CC");
+    /* no bytes: behind the last one, and nothing is packed */
+    use("");
+    SAME(REPLACE(2, 0), 0, 2);
+    TABLE_IS(PAYLOAD(1, 3, 0), PAYLOAD(3, 2, 1), 77);
+    /* packed: the other payload goes to the front */
+    use("0102030405");
+    SAME(REPLACE(2, 0), 0, 2);
+    TABLE_IS(PAYLOAD(1, 1, 5), PAYLOAD(3, 0, 1), 77);
+    BUF_IS("CC0102030405");
+    use("010203040506");
+    SAME(REPLACE(2, 0), 5, 0); /* one byte more than the room */
+    BUF_IS("CC0102030405");
+    TABLE_IS(PAYLOAD(1, 1, 5), PAYLOAD(3, 0, 1), 77);
+    /* its own bytes are free: the whole room */
+    stock("01FF");
+    ROWS(PAYLOAD(0, 0, 1));
+    use("AABB");
+    SAME(REPLACE(1, 0), 0, 1);
+    TABLE_IS(PAYLOAD(0, 0, 2));
+    BUF_IS("AABB");
+    use("AABBCC");
+    SAME(REPLACE(1, 0), 5, 0);
+    /* what is no payload, or not there; before NoRoom */
+    stock("AA");
+    ROWS(PAYLOAD(0, 0, 1), NUMBER(1, 5));
+    use("AABBCC");
+    SAME(REPLACE(2, 1), 6, 1);
+    SAME(REPLACE(2, 2), 6, 2);
+    SAME(REPLACE(2, SIZE_MAX), 6, UINT64_MAX);
+    SAME(REPLACE(0, 0), 6, 0);
+    TABLE_IS(PAYLOAD(0, 0, 1), NUMBER(1, 5));
+    BUF_IS("AA");
+}
+
+static void insertions(void) {
+    /* behind all of equal or lower tag, its bytes behind the last payload */
+    stock("AABB00000000");
+    ROWS(NUMBER(1, 5), PAYLOAD(2, 0, 2), NUMBER(2, 6), NUMBER(3, 7), FREE, FREE);
+    use("CC");
+    SAME(ADD(4, 2), 0, 5);
+    TABLE_IS(NUMBER(1, 5), PAYLOAD(2, 0, 2), NUMBER(2, 6), PAYLOAD(2, 2, 1), NUMBER(3, 7), FREE);
+    SAME(ADD(5, 4294967295), 0, 6);
+    TABLE_IS(NUMBER(1, 5), PAYLOAD(2, 0, 2), NUMBER(2, 6), PAYLOAD(2, 2, 1), NUMBER(3, 7), PAYLOAD(4294967295, 3, 1));
+    BUF_IS("AABBCCCC0000");
+    SAME(ADD(6, 0), 5, 0); /* the table is full */
+    use("");
+    SAME(ADD(6, 0), 5, 0);
+    MESSAGE_IS(5, "04050502AABB00060101CC0407");
+    /* an empty one overlaps nothing, and is not the last one */
+    stock("616263");
+    ROWS(PAYLOAD(0, 3, 0), FREE);
+    use("585858");
+    SAME(ADD(1, 0), 0, 2);
+    TABLE_IS(PAYLOAD(0, 3, 0), PAYLOAD(0, 0, 3));
+    BUF_IS("585858");
+    /* packed in order of place, not of the table; an empty one's start becomes 0; the bytes behind stay */
+    stock("2E2E61622E63");
+    ROWS(PAYLOAD(0, 5, 1), PAYLOAD(1, 2, 2), PAYLOAD(1, 4, 0), FREE);
+    use("58");
+    SAME(ADD(3, 0), 0, 4);
+    TABLE_IS(PAYLOAD(0, 2, 1), PAYLOAD(0, 3, 1), PAYLOAD(1, 0, 2), PAYLOAD(1, 0, 0));
+    BUF_IS("616263582E63");
+    MESSAGE_IS(4, "010163010158050261620100");
+    /* no room, exactly by the sum */
+    stock("2E2E61622E63");
+    ROWS(PAYLOAD(0, 5, 1), PAYLOAD(1, 2, 2), FREE);
+    use("58595A5B");
+    SAME(ADD(2, 2), 5, 0);
+    BUF_IS("2E2E61622E63");
+    len--;
+    SAME(ADD(2, 2), 0, 3);
+    BUF_IS("61626358595A");
+    use("");
+    SAME(REPLACE(3, 2), 0, 3);
+    TABLE_IS(PAYLOAD(0, 2, 1), PAYLOAD(1, 0, 2), PAYLOAD(2, 3, 0)); /* behind the last one */
+    /* no room at all takes no bytes, again and again */
+    room(0);
+    ROWS(FREE, FREE);
+    SAME(ADD(0, 7), 0, 1);
+    SAME(ADD(1, 7), 0, 2);
+    SAME(ADD(2, 7), 5, 0);
+    TABLE_IS(PAYLOAD(7, 0, 0), PAYLOAD(7, 0, 0));
+    use("AA");
+    SAME(REPLACE(2, 0), 5, 0);
+    MESSAGE_IS(2, "1D000100");
+}
+
+/* All three of a copy that is none: the number and the value; nothing is written. */
+static void no_copy(int line, size_t count, uint64_t number, uint64_t value) {
+    const uint64_t want[] = {number, value};
+    uint64_t before[64];
+    uint8_t old[64];
+    memcpy(before, table, 8 * words);
+    if (buf_len <= sizeof old) memcpy(old, buf, buf_len);
+    const capgauze_number got[] = {REMOVE(count, 0), REPLACE(count, 0), ADD(count, 0), REMOVE(count, 9), REPLACE(count, 9)};
+    for (size_t i = 0; i < sizeof got / sizeof *got; i++) same(line, "an edit", got + i, sizeof *got, want, sizeof want);
+    same(line, "table", table, 8 * words, before, 8 * words);
+    calls++;
+    if (buf_len <= sizeof old && memcmp(old, buf, buf_len)) failures++, printf("test.c:%d: the room changed\n", line);
+}
+#define NO_COPY(count, number, value) no_copy(__LINE__, count, number, value)
+
+static void bad_copies(void) {
+    stock("AABBCCDD");
+    use("EEEEEEEEEEEEEEEEEE"); /* never any room: its refusal is the last one */
+    ROWS(PAYLOAD(0, 0, 1), PAYLOAD(0, 1, 1), 77);
+    NO_COPY(3, 6, 2); /* the room of the table */
+    NO_COPY(SIZE_MAX, 6, 2);
+    ROWS(PAYLOAD(0, 0, 1), PAYLOAD(0, 1, 4));
+    NO_COPY(2, 6, 1);
+    ROWS(PAYLOAD(1, 0, 1), PAYLOAD(0, 1, 1));
+    NO_COPY(2, 7, 1);
+    ROWS(PAYLOAD(0, 0, 1), 0, CAPGAUZE_VARINT, 0, 0, 4); /* a key at or past the room's end: a record that is not good */
+    NO_COPY(2, 6, 1);
+    /* two that touch, and an empty one inside another, are fine; overlapping ones are told by the later index */
+    ROWS(PAYLOAD(0, 0, 2), PAYLOAD(0, 2, 1), PAYLOAD(0, 1, 0));
+    SAME(REMOVE(3, 2), 0, 2);
+    ROWS(PAYLOAD(0, 0, 2), PAYLOAD(0, 1, 1));
+    NO_COPY(2, 6, 1);
+    ROWS(PAYLOAD(0, 1, 2), PAYLOAD(0, 0, 2));
+    NO_COPY(2, 6, 1);
+    ROWS(PAYLOAD(0, 0, 4), NUMBER(0, 0), PAYLOAD(0, 1, 1));
+    NO_COPY(3, 6, 2);
+    ROWS(PAYLOAD(0, 0, 1), PAYLOAD(0, 1, 1), PAYLOAD(0, 1, 1), PAYLOAD(0, 0, 1));
+    NO_COPY(4, 6, 2);
+    /* key words: behind all overlaps */
+    ROWS(PAYLOAD(0, 0, 1), 0, CAPGAUZE_VARINT, 0, 0, 3);
+    NO_COPY(2, 6, 1);
+    ROWS(0, CAPGAUZE_VARINT, 0, 0, 0, PAYLOAD(0, 0, 2), PAYLOAD(0, 1, 1));
+    NO_COPY(3, 6, 2);
+    ROWS(0, CAPGAUZE_VARINT, 0, 0, 0, PAYLOAD(0, 0, 2), PAYLOAD(0, 2, 1));
+    NO_COPY(3, 6, 0);
+    /* what was read has keys; without them it is a working copy */
+    stock("04050902C0DE");
+    lay(2 * CAPGAUZE_RECORD_WORDS, 0);
+    SAME(capgauze_read_message(BUF, 0, buf_len, TABLE), 0, 6, 2, 0, 0);
+    NO_COPY(2, 6, 0);
+    for (size_t i = CAPGAUZE_RECORD_WORDS - 1; i < words; i += CAPGAUZE_RECORD_WORDS) table[i] = CAPGAUZE_NO_KEY;
+    use("0102030405");
+    SAME(REPLACE(2, 1), 0, 2);
+    TABLE_IS(NUMBER(1, 5), PAYLOAD(3, 0, 5));
+    MESSAGE_IS(2, "040509050102030405");
+    /* the room's length comes first */
+    room(CAPGAUZE_LIMIT + 1);
+    NO_COPY(2, 4, 0);
+    NO_COPY(SIZE_MAX, 4, 0);
+}
+
+/* ---- Soundings of the second edition ---- */
+
+#define ONES "FFFEFEFEFEFEFEFEFE"
+#define GRADED(least) capgauze_read_graded(S, TABLE, least)
+#define GRADES CAPGAUZE_GRADE_NOT_CANONICAL, CAPGAUZE_GRADE_HAS_EXTENSIONS, CAPGAUZE_GRADE_CANONICAL
+
+/* A sounding of station 1, launch 0 and these levels, each by its own fields, and of what stands behind them; the table has
+ * room for all of its levels and for a word more. */
+static void sound(const char *levels[], const char *behind) {
+    char hex[512] = "04010400";
+    size_t n = 0;
+    for (; levels[n]; n++) sprintf(hex + strlen(hex), "%02X%02X%s", n ? 1 : 5, (unsigned)strlen(levels[n]) / 2, levels[n]);
+    use(strcat(hex, behind));
+    lay(CAPGAUZE_GRADED_WORDS * n + 1, 0);
+}
+#define SOUND(...) sound((const char *[]){__VA_ARGS__, 0}, "")
+
+static void graded(void) {
+    use("04010400"); /* no levels */
+    lay(0, 0);
+    SAME(GRADED(CAPGAUZE_GRADE_CANONICAL), 0, 1, 0, 0, 2);
+    SOUND("0464040304050407045A", "0464");
+    SAME(GRADED(CAPGAUZE_GRADE_CANONICAL), 0, 1, 0, 2, CAPGAUZE_GRADE_CANONICAL);
+    TABLE_IS(100, 1, 3, 1, 5, 1, 7, 1, 90, 100, 0, UINT64_MAX, 0, UINT64_MAX, 0, UINT64_MAX, 0, UINT64_MAX, 77);
+    SAME(capgauze_read_sounding(S, TABLE), 0, 1, 0, 2);
+    TABLE_IS(100, 1, 3, 1, 5, 100, 0, UINT64_MAX, 0, UINT64_MAX, 0, UINT64_MAX, 0, UINT64_MAX, 0, UINT64_MAX, 0, UINT64_MAX,
+             77);
+    /* the greatest speed and direction; zeros are numbers */
+    SOUND("04640CD00E04E701", "04640C000400");
+    SAME(GRADED(CAPGAUZE_GRADE_CANONICAL), 0, 1, 0, 2, 2);
+    TABLE_IS(100, 0, UINT64_MAX, 0, UINT64_MAX, 1, 2000, 1, 359, 100, 0, UINT64_MAX, 0, UINT64_MAX, 1, 0, 1, 0, 77);
+    /* an iced vane: all ones written out */
+    SOUND("04640C" ONES "04" ONES);
+    SAME(GRADED(CAPGAUZE_GRADE_CANONICAL), 14, 0, 0, 0, 0);
+    SAME(GRADED(CAPGAUZE_GRADE_HAS_EXTENSIONS), 14, 0, 0, 0, 0);
+    TABLE_IS(77, 77, 77, 77, 77, 77, 77, 77, 77, 77);
+    SAME(GRADED(CAPGAUZE_GRADE_NOT_CANONICAL), 0, 1, 0, 1, CAPGAUZE_GRADE_NOT_CANONICAL);
+    TABLE_IS(100, 0, UINT64_MAX, 0, UINT64_MAX, 0, UINT64_MAX, 0, UINT64_MAX, 77);
+    /* each of the four by itself, and none of the head's */
+    static const char *ones[] = {"046404" ONES, "046408" ONES, "04640C" ONES, "046410" ONES};
+    for (size_t i = 0; i < 4; i++) {
+        SOUND(ones[i]);
+        SAME(GRADED(CAPGAUZE_GRADE_HAS_EXTENSIONS), 14, 0, 0, 0, 0);
+        SAME(GRADED(CAPGAUZE_GRADE_NOT_CANONICAL), 0, 1, 0, 1, 0);
+        TABLE_IS(100, 0, UINT64_MAX, 0, UINT64_MAX, 0, UINT64_MAX, 0, UINT64_MAX, 77);
+    }
+    use("040104" ONES);
+    SAME(GRADED(CAPGAUZE_GRADE_CANONICAL), 0, 1, UINT64_MAX, 0, 2);
+    /* unknown tags: 0 and 4 of the sounding, 0 and 9 of a level; all ones there is no more than unknown, nor is a second one */
+    static const char *unknown[] = {"00010401040005020464", "040104000502046404" ONES "0000", "0401040005" "0400000464",
+                                    "0401040005" "0404642001"};
+    for (size_t i = 0; i < 4; i++) {
+        use(unknown[i]);
+        lay(CAPGAUZE_GRADED_WORDS, 0);
+        SAME(GRADED(CAPGAUZE_GRADE_CANONICAL), 15, 0, 0, 0, 0);
+        TABLE_IS(77, 77, 77, 77, 77, 77, 77, 77, 77);
+        SAME(GRADED(CAPGAUZE_GRADE_HAS_EXTENSIONS), 0, 1, 0, 1, CAPGAUZE_GRADE_HAS_EXTENSIONS);
+        SAME(GRADED(CAPGAUZE_GRADE_NOT_CANONICAL), 0, 1, 0, 1, CAPGAUZE_GRADE_HAS_EXTENSIONS);
+        TABLE_IS(100, 0, UINT64_MAX, 0, UINT64_MAX, 0, UINT64_MAX, 0, UINT64_MAX);
+    }
+}
+
+/* What each least grade answers, from NotCanonical on: a refusal, or 0 with the grade that is reached. */
+static void graded_as(int line, uint64_t any, uint64_t extensions, uint64_t canonical, uint64_t grade) {
+    const uint64_t numbers[] = {any, extensions, canonical}, leasts[] = {GRADES};
+    for (size_t i = 0; i < 3; i++) {
+        const capgauze_graded got = GRADED(leasts[i]);
+        const uint64_t levels = words / CAPGAUZE_GRADED_WORDS, no = numbers[i];
+        const uint64_t want[] = {no, no ? 0 : 1, 0, no ? 0 : levels, no ? 0 : grade};
+        same(line, "read_graded", &got, sizeof got, want, sizeof want);
+    }
+}
+#define GRADED_AS(any, extensions, canonical, grade) graded_as(__LINE__, any, extensions, canonical, grade)
+
+static void bad_grades(void) {
+    /* both faults: the first in the bytes names the refusal, the least of them is the grade */
+    SOUND("046404" ONES "2001");
+    GRADED_AS(0, 14, 14, 0);
+    SOUND("0001046404" ONES);
+    GRADED_AS(0, 14, 15, 0);
+    SOUND("04642001", "046404" ONES);
+    GRADED_AS(0, 14, 15, 0);
+    SOUND("046404" ONES, "04642001");
+    GRADED_AS(0, 14, 14, 0);
+    sound((const char *[]){"046404" ONES, 0}, "0401"); /* a tag of the sounding behind its levels */
+    GRADED_AS(0, 14, 14, 0);
+    sound((const char *[]){"0464", 0}, "0401");
+    GRADED_AS(0, 0, 15, 1);
+    /* the tags' own refusals, before any grade */
+    SOUND("046404" ONES "08D10E"); /* 2,001 */
+    GRADED_AS(10, 10, 10, 0);
+    SOUND("04640C0704E801"); /* 360 */
+    GRADED_AS(10, 10, 10, 0);
+    SOUND("04640E00000000"); /* a speed of four bytes */
+    GRADED_AS(9, 9, 9, 0);
+    SOUND("04641100"); /* a direction that is a payload */
+    GRADED_AS(9, 9, 9, 0);
+    SOUND("04640C010200000000"); /* twice, before its type */
+    GRADED_AS(11, 11, 11, 0);
+    SOUND("046410010002");
+    GRADED_AS(11, 11, 11, 0);
+    SOUND("04640CD10E0500"); /* tag 4 before tag 5 */
+    GRADED_AS(10, 10, 10, 0);
+    SOUND("04640A0000000004D10E"); /* tag 3 before tag 4 */
+    GRADED_AS(9, 9, 9, 0);
+    SOUND("0C07"); /* no pressure */
+    GRADED_AS(13, 13, 13, 0);
+    SOUND("0001", "04640CD10E"); /* a level's before an earlier level's grade */
+    GRADED_AS(13, 13, 13, 0);
+    SOUND("04642001", "04640CD10E");
+    GRADED_AS(10, 10, 10, 0);
+    TABLE_IS(77, 77, 77, 77, 77, 77, 77, 77, 77, 77, 77, 77, 77, 77, 77, 77, 77, 77, 77);
+    use("0400");
+    GRADED_AS(10, 10, 10, 0);
+    use("0401");
+    GRADED_AS(13, 13, 13, 0);
+    use("04010400050E");
+    GRADED_AS(1, 1, 1, 0);
+    /* NoRoom before the grade, and the room is in levels */
+    SOUND("04642001", "046404" ONES);
+    words = 2 * CAPGAUZE_GRADED_WORDS - 1;
+    GRADED_AS(5, 5, 5, 0);
+    words = 0;
+    GRADED_AS(5, 5, 5, 0);
+    /* no grade: before anything else */
+    SAME(GRADED(3), 6, 0, 0, 0, 0);
+    SAME(GRADED(UINT64_MAX), 6, 0, 0, 0, 0);
+    len = CAPGAUZE_LIMIT + 1;
+    bytes = lend(len);
+    SAME(GRADED(3), 6, 0, 0, 0, 0);
+    GRADED_AS(4, 4, 4, 0);
+}
+
 /* ---- The longest messages, with all that is lent elsewhere than on the stack, which is as small as a thread's may be ---- */
 
 #define FIELDS 524287
@@ -503,7 +1153,8 @@ static void longest(void) {
     bytes[len - 2] = 0x80;
     lay(CAPGAUZE_RECORD_WORDS * FIELDS, 0);
     SAME(capgauze_read_message(S, 0, len, TABLE), 0, CAPGAUZE_LIMIT, FIELDS, 0, 0);
-    SAME((uint64_t)table[4 * FIELDS - 2], 128);
+    SAME((uint64_t)table[words - 3], 128);
+    SAME((uint64_t)table[words - 1], CAPGAUZE_LIMIT - 3);
     room(CAPGAUZE_LIMIT);
     SAME(capgauze_encode_message(S, TABLE, FIELDS, BUF), 0, 0, CAPGAUZE_LIMIT);
     SAME((uint64_t)memcmp(buf, bytes, len), 0);
@@ -514,9 +1165,9 @@ static void longest(void) {
     SAME(capgauze_encode_message(S, TABLE, FIELDS, BUF), 5, 0, CAPGAUZE_LIMIT);
     SAME(capgauze_insert(S, TABLE, FIELDS - 1, 31, 0, 128, 0), 0, FIELDS);
     SAME(capgauze_prepend_message(S, TABLE, FIELDS, BUF), 5, 0, CAPGAUZE_LIMIT);
-    table[4 * FIELDS - 4] = 32; /* its key takes one byte more than may be written */
+    table[words - 5] = 32; /* its key takes one byte more than may be written */
     SAME(capgauze_encode_message(S, TABLE, FIELDS, buf, 0), 4, 0, 0); /* before NoRoom */
-    lay(4 * FIELDS - 1, 0);
+    lay(CAPGAUZE_RECORD_WORDS * FIELDS - 1, 0);
     SAME(capgauze_read_message(S, 0, len, TABLE), 5, 0, FIELDS, 0, 0);
     SAME(capgauze_pick(S, 1), 0, 0, 0, 0, 0);
     SAME(capgauze_pick_at(S, 0, FIELDS - 1), 0, FIELDS, 1, 0, 128, 0);
@@ -541,11 +1192,65 @@ static void longest(void) {
     for (size_t n = CAPGAUZE_LIMIT - 4; n < CAPGAUZE_LIMIT - 2; n++) {
         len = n;
         bytes = lend(len);
-        lay(4, (const uint64_t[]){0, 1, 0, n});
+        lay(5, (const uint64_t[]){0, 1, 0, n, n - 1});
         room(CAPGAUZE_LIMIT);
         if (n == CAPGAUZE_LIMIT - 4) SAME(capgauze_encode_message(S, TABLE, 1, BUF), 0, 0, CAPGAUZE_LIMIT);
         else SAME(capgauze_encode_message(S, TABLE, 1, BUF), 4, 0, 0);
     }
+    /* the longest result, and a byte more: the original is one payload, the correction a field behind it */
+    for (size_t n = CAPGAUZE_LIMIT - 6; n < CAPGAUZE_LIMIT - 4; n++) {
+        len = n + 4;
+        bytes = lend(len);
+        bytes[0] = 1;
+        SAME(capgauze_encode_varint(n, bytes + 1, 3), 0, 3);
+        other_len = 2;
+        other = memcpy(lend(2), "\x04\x00", 2);
+        room(CAPGAUZE_LIMIT);
+        if (n == CAPGAUZE_LIMIT - 6) SAME(WRITE(), 0, CAPGAUZE_LIMIT);
+        else SAME(WRITE(), 4, 0);
+        SAME(capgauze_write_corrected(S, C, buf, 0), n == CAPGAUZE_LIMIT - 6 ? 5 : 4, 0);
+        SAME(BY(0), 0, CAPGAUZE_FROM_ORIGINAL);
+        SAME(PART(0), 4, n);
+        SAME(PART(1), 1, 1);
+    }
+    /* the most fields, every second tag corrected */
+    len = 2 * FIELDS, other_len = FIELDS - 1;
+    bytes = memset(lend(len), 0, len), other = lend(other_len);
+    for (size_t i = 0; i < len; i += 2) bytes[i] = 4;
+    for (size_t i = 0; i < other_len; i += 2) other[i] = 8, other[i + 1] = 5;
+    room(len);
+    SAME(WRITE(), 0, 2 * FIELDS);
+    for (size_t i = 0; i < len; i += 2) bytes[i + 1] = i % 4 ? 5 : 0;
+    SAME((uint64_t)memcmp(buf, bytes, len), 0);
+    SAME(BY(FIELDS), 0, CAPGAUZE_FROM_ORIGINAL);
+    SAME(PART(FIELDS), 2 * FIELDS - 1, 1);
+    SAME(BY(FIELDS - 1), 0, CAPGAUZE_FROM_CORRECTION);
+    SAME(PART(FIELDS - 1), FIELDS - 2, 1);
+    room(len - 1);
+    SAME(WRITE(), 5, 0);
+    /* the most values of a run, and one byte more; runs of four and eight bytes */
+    len = CAPGAUZE_LIMIT;
+    bytes = lend(len); /* zeros */
+    lay(CAPGAUZE_RECORD_WORDS * CAPGAUZE_LIMIT, 0);
+    SAME(RUN(CAPGAUZE_VARINT), 0, CAPGAUZE_LIMIT);
+    SAME((uint64_t)(table[words - 5] | table[words - 4] | table[words - 3] | table[words - 2]), 0);
+    SAME((uint64_t)table[words - 1], CAPGAUZE_NO_KEY);
+    room(CAPGAUZE_LIMIT);
+    SAME(PACK(CAPGAUZE_LIMIT, CAPGAUZE_VARINT), 0, 0, CAPGAUZE_LIMIT);
+    SAME((uint64_t)memcmp(buf, bytes, len), 0);
+    table[words - 3] = 128; /* takes one byte more than may be written */
+    SAME(capgauze_write_run(S, TABLE, CAPGAUZE_LIMIT, CAPGAUZE_VARINT, buf, 0), 4, 0, 0); /* before NoRoom */
+    SAME(AT(CAPGAUZE_VARINT, CAPGAUZE_LIMIT - 1), 0, 1, 0, 0, 0);
+    SAME(AT(CAPGAUZE_VARINT, CAPGAUZE_LIMIT), 0, 0, 0, 0, 0);
+    words--;
+    SAME(RUN(CAPGAUZE_VARINT), 5, 0);
+    SAME(COUNT(CAPGAUZE_LENGTH_DELIMITED), 0, CAPGAUZE_LIMIT);
+    SAME(COUNT(CAPGAUZE_THIRTY_TWO_BIT), 1, 0);
+    len -= 3;
+    SAME(COUNT(CAPGAUZE_THIRTY_TWO_BIT), 0, CAPGAUZE_LIMIT / 4);
+    SAME(COUNT(CAPGAUZE_SIXTY_FOUR_BIT), 1, 0);
+    len -= 4;
+    SAME(COUNT(CAPGAUZE_SIXTY_FOUR_BIT), 0, CAPGAUZE_LIMIT / 8);
     /* a sounding as long as a message may be: a head of four bytes, levels of four, and a field that is passed over */
     len = CAPGAUZE_LIMIT;
     bytes = lend(len);
@@ -555,6 +1260,41 @@ static void longest(void) {
     lay(CAPGAUZE_LEVEL_WORDS * 262142, 0);
     SAME(capgauze_read_sounding(S, TABLE), 0, 1, 0, 262142);
     SAME((uint64_t)table[words - 5], 100);
+    lay(CAPGAUZE_GRADED_WORDS * 262142, 0);
+    SAME(GRADED(CAPGAUZE_GRADE_CANONICAL), 15, 0, 0, 0, 0);
+    SAME((uint64_t)table[0], 77);
+    SAME(GRADED(CAPGAUZE_GRADE_HAS_EXTENSIONS), 0, 1, 0, 262142, 1);
+    SAME((uint64_t)table[words - CAPGAUZE_GRADED_WORDS], 100);
+    words--;
+    SAME(GRADED(CAPGAUZE_GRADE_CANONICAL), 5, 0, 0, 0, 0);
+    /* a working copy of the longest room: a thousand payloads, of which every second one goes, and one in all they leave */
+    room(CAPGAUZE_LIMIT);
+    lay(CAPGAUZE_RECORD_WORDS * 1000, 0);
+    len = 1000;
+    bytes = lend(len);
+    for (size_t i = 0; i < 1000; i++) {
+        memset(bytes, i % 256, len);
+        SAME(ADD(i, i), 0, i + 1);
+    }
+    for (size_t i = 0; i < 500; i++) SAME(REMOVE(1000 - i, i), 0, 999 - i);
+    len = CAPGAUZE_LIMIT - 500 * 1000 + 1;
+    bytes = memset(lend(len), 0xEE, len);
+    SAME(ADD(500, 0), 5, 0);
+    len--;
+    SAME(ADD(500, 0), 0, 501);
+    SAME((uint64_t)table[2], 500 * 1000); /* behind the packed ones */
+    for (size_t i = 0; i < 500; i++) {
+        const uint64_t *row = table + CAPGAUZE_RECORD_WORDS * (i + 1);
+        const uint64_t want[] = {PAYLOAD(2 * i + 1, 1000 * i, 1000)};
+        same(__LINE__, "a record", row, sizeof want, want, sizeof want);
+        SAME((uint64_t)(buf[row[2]] << 8 | buf[row[2] + 999]), (2 * i + 1) % 256 * 257);
+    }
+    SAME((uint64_t)(buf[500 * 1000] << 8 | buf[CAPGAUZE_LIMIT - 1]), 0xEEEE);
+    uint8_t *out = lend(CAPGAUZE_LIMIT);
+    SAME(capgauze_encode_message(BUF, TABLE, 501, out, CAPGAUZE_LIMIT), 4, 0, 0); /* a good copy, too long a message */
+    len = 500 * 1000;
+    SAME(REPLACE(501, 0), 0, 501);
+    SAME(capgauze_encode_message(BUF, TABLE, 501, out, CAPGAUZE_LIMIT), 0, 0, 4 + 500000 + 500 * 1003);
 }
 
 static void *in_a_thread(void *nothing) {
@@ -578,7 +1318,19 @@ int main(void) {
     lookups();
     lines();
     read_lines();
+    corrections();
+    suppliers();
+    bad_corrections();
+    runs();
+    bad_runs();
+    bad_packing();
+    removals();
+    replacements();
+    insertions();
+    bad_copies();
     soundings();
+    graded();
+    bad_grades();
     small_stack();
     printf("%d answers, %d differ\n", calls, failures);
     return failures != 0;

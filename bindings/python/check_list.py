@@ -13,7 +13,7 @@ from capgauze import call, lent, room
 
 LIST = os.path.join(os.path.dirname(os.path.abspath(__file__)), "..", "..", "oracle", "list")
 FILL = 0xA5A5_A5A5_A5A5_A5A5  # a table's words before a read; a buffer's bytes are A5
-RECORD = 4  # words a record
+RECORD = 5  # words a record
 
 
 def total(words):

@@ -20,7 +20,9 @@ answers! {
     Several { number, count, found, kind, value, length }
     Early { number, keys, found, kind, value, length }
     Part { start, length }
+    Supplier { number, supplier }
     Sounding { number, station, launch, levels }
+    Graded { number, station, launch, levels, grade }
 }
 
 pub type Writer =
@@ -44,8 +46,8 @@ extern "C" {
     pub fn capgauze_skip_field(s: *const u8, len: usize, at: usize, end: usize, kind: u64) -> Place;
     pub fn capgauze_step_at(s: *const u8, len: usize, at: usize, end: usize, last: u32) -> Step;
     pub fn capgauze_read_message(s: *const u8, len: usize, start: usize, end: usize, table: *mut u64, words: usize) -> Read;
-    pub fn capgauze_payload_of(s: *const u8, len: usize, tag: u64, kind: u64, value: u64, length: u64) -> Part;
-    pub fn capgauze_read_payload(s: *const u8, len: usize, tag: u64, kind: u64, value: u64, length: u64, table: *mut u64, words: usize) -> Read;
+    pub fn capgauze_payload_of(s: *const u8, len: usize, tag: u64, kind: u64, value: u64, length: u64, key: u64) -> Part;
+    pub fn capgauze_read_payload(s: *const u8, len: usize, tag: u64, kind: u64, value: u64, length: u64, key: u64, table: *mut u64, words: usize) -> Read;
     pub fn capgauze_encode_message(source: *const u8, len: usize, table: *const u64, words: usize, count: usize, buf: *mut u8, buf_len: usize) -> Written;
     pub fn capgauze_prepend_message(source: *const u8, len: usize, table: *const u64, words: usize, count: usize, buf: *mut u8, buf_len: usize) -> Written;
     pub fn capgauze_insert(source: *const u8, len: usize, table: *mut u64, words: usize, count: usize, tag: u64, kind: u64, value: u64, length: u64) -> Number;
@@ -57,5 +59,16 @@ extern "C" {
     pub fn capgauze_pick_indexed(s: *const u8, len: usize, index: *const u64, words: usize, tags: usize, tag: u32) -> Picked;
     pub fn capgauze_write_line(index: *const u64, words: usize, tags: usize, line: *mut u8, line_len: usize) -> Number;
     pub fn capgauze_read_line(line: *const u8, line_len: usize, message_len: usize, index: *mut u64, words: usize) -> Number;
+    pub fn capgauze_corrected_part(s: *const u8, len: usize, over: *const u8, over_len: usize, tag: u32) -> Part;
+    pub fn capgauze_corrected_by(s: *const u8, len: usize, over: *const u8, over_len: usize, tag: u32) -> Supplier;
+    pub fn capgauze_write_corrected(s: *const u8, len: usize, over: *const u8, over_len: usize, buf: *mut u8, buf_len: usize) -> Number;
+    pub fn capgauze_run_count(s: *const u8, len: usize, kind: u64) -> Number;
+    pub fn capgauze_run_value(s: *const u8, len: usize, kind: u64, number: usize) -> Picked;
+    pub fn capgauze_read_run(s: *const u8, len: usize, kind: u64, table: *mut u64, words: usize) -> Number;
+    pub fn capgauze_write_run(source: *const u8, len: usize, table: *const u64, words: usize, count: usize, kind: u64, buf: *mut u8, buf_len: usize) -> Written;
+    pub fn capgauze_remove_record(room: *const u8, room_len: usize, table: *mut u64, words: usize, count: usize, index: usize) -> Number;
+    pub fn capgauze_replace_payload(room: *mut u8, room_len: usize, table: *mut u64, words: usize, count: usize, index: usize, bytes: *const u8, len: usize) -> Number;
+    pub fn capgauze_insert_payload(room: *mut u8, room_len: usize, table: *mut u64, words: usize, count: usize, tag: u32, bytes: *const u8, len: usize) -> Number;
     pub fn capgauze_read_sounding(s: *const u8, len: usize, levels: *mut u64, words: usize) -> Sounding;
+    pub fn capgauze_read_graded(s: *const u8, len: usize, levels: *mut u64, words: usize, least: u64) -> Graded;
 }

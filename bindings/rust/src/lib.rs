@@ -1,19 +1,20 @@
 //! Capgauze: a proved reader and writer of Bilrost messages.
 //!
-//! Every function here calls one entry of the static library that `rt staticlib capgauze_c` proves and writes (x86-64
+//! Every function here calls entries of the static library that `rt staticlib capgauze_c` proves and writes (x86-64
 //! Linux); the types only put names on its numbers. No wrapper refuses anything itself. A refused call leaves all that
-//! it was lent as it was. Nothing is allocated, but by [`Index`] (the feature `alloc`), and nothing panics.
+//! it was lent as it was. Nothing is allocated, but by [`Index`], [`WorkingCopy`], [`message`], [`corrected`] and what
+//! packs and unpacks runs (the feature `alloc`), and nothing panics.
 //!
-//! A message is read into a table, four words a record ([`Record`]); records are written from one. Payloads are parts of
+//! A message is read into a table, five words a record ([`Record`]); records are written from one. Payloads are parts of
 //! the message, not copies. Half as many records as a message has bytes always suffice; of the longest message that is a
-//! table of 16 MB, which belongs into a `Vec` and not onto a thread's stack. A table of no words is refused as NoRoom with
+//! table of 21 MB, which belongs into a `Vec` and not onto a thread's stack. A table of no words is refused as NoRoom with
 //! the number of records that are needed.
 //!
 //! ```
 //! use capgauze::{read_message, payload_of, Record, Value};
 //!
 //! let message = [0x04, 0xFF, 0xFE, 0xFE, 0xFE, 0xFE, 0xFE, 0xFE, 0xFE, 0xFE, 0x09, 0x02, 0xC0, 0xDE];
-//! let mut table = [0; 4 * 7];
+//! let mut table = [0; 5 * 7];
 //! let read = read_message(&message, 0, message.len(), &mut table)?;
 //! assert_eq!(read.count, 2);
 //!
@@ -33,13 +34,21 @@ mod ffi;
 extern crate alloc;
 
 #[cfg(feature = "alloc")]
+mod copy;
+#[cfg(feature = "alloc")]
 mod index;
+#[cfg(feature = "alloc")]
+mod runs;
 mod types;
 
 #[cfg(feature = "alloc")]
 use alloc::{vec, vec::Vec};
 #[cfg(feature = "alloc")]
+pub use copy::WorkingCopy;
+#[cfg(feature = "alloc")]
 pub use index::Index;
+#[cfg(feature = "alloc")]
+pub use runs::*;
 pub use types::*;
 
 /// The longest slice that is read, and the longest message that is written.
@@ -47,6 +56,9 @@ pub const LIMIT: usize = 1_048_575;
 
 /// The words of a level in a table.
 pub const LEVEL_WORDS: usize = 5;
+
+/// The words of a level of the second edition in a table.
+pub const GRADED_WORDS: usize = 9;
 
 #[cfg(not(target_pointer_width = "64"))]
 compile_error!("capgauze is for 64-bit lengths");
@@ -56,9 +68,9 @@ compile_error!("capgauze is for 64-bit lengths");
 /// `Ok` of an accepted answer, or its refusal. The library's numbers are those of [`Refusal`].
 fn accepted(number: u64) -> Result<(), Refusal> {
     use Refusal::*;
-    const ALL: [Refusal; 13] = [
+    const ALL: [Refusal; 15] = [
         Truncated, InvalidVarint, TagOverflowed, TooLong, NoRoom, BadRecord, OutOfOrder, BadCap, WrongWireType,
-        OutOfRange, Repeated, BadIndex, MissingField,
+        OutOfRange, Repeated, BadIndex, MissingField, NotCanonical, UnknownField,
     ];
     match number {
         0 => Ok(()),
@@ -355,13 +367,13 @@ impl Iterator for Fields<'_> {
 ///
 /// ```
 /// # use capgauze::{read_message, Read, Refusal};
-/// let mut table = [77; 5];
+/// let mut table = [77; 6];
 /// assert_eq!(read_message(&[0x04, 0x07], 0, 2, &mut table), Ok(Read { place: 2, count: 1 }));
-/// assert_eq!(table, [1, 0, 7, 0, 77]);
+/// assert_eq!(table, [1, 0, 7, 0, 0, 77]);
 ///
 /// let refused = read_message(&[0x04, 0x07, 0x00], 0, 3, &mut table).unwrap_err();
 /// assert_eq!((refused.refusal, refused.place), (Refusal::Truncated, 2));
-/// assert_eq!(table, [1, 0, 7, 0, 77]);
+/// assert_eq!(table, [1, 0, 7, 0, 0, 77]);
 /// ```
 pub fn read_message(
     s: &[u8],
@@ -378,35 +390,73 @@ pub fn read_message(
 ///
 /// ```
 /// # use capgauze::{payload_of, Record};
-/// let record = Record { tag: 3, wire_type: 1, value: 2, length: 2 };
+/// let record = Record { tag: 3, wire_type: 1, value: 2, length: 2, key: 0 };
 /// assert_eq!(payload_of(&[0x0D, 0x02, 0xC0, 0xDE], record), [0xC0, 0xDE]);
 /// assert_eq!(payload_of(&[0x0D, 0x02, 0xC0], record), []);
+/// assert_eq!(payload_of(&[0x0D, 0x02, 0xC0, 0xDE], Record { key: 4, ..record }), []);
 /// ```
 pub fn payload_of(message: &[u8], record: Record) -> &[u8] {
-    let Record { tag, wire_type, value, length } = record;
+    let Record { tag, wire_type, value, length, key } = record;
     let (s, len) = (message.as_ptr(), message.len());
-    let part = unsafe { ffi::capgauze_payload_of(s, len, tag, wire_type, value, length) };
+    let part = unsafe { ffi::capgauze_payload_of(s, len, tag, wire_type, value, length, key) };
     &message[part.start as usize..][..part.length as usize]
 }
 
-/// Reads a record's payload as a message in itself: places and payload starts count from its first byte. A record
+/// Reads a record's payload as a message in itself: places, payload starts and keys count from its first byte. A record
 /// without a payload is the empty message, which is accepted.
 ///
 /// ```
 /// # use capgauze::{read_payload, Read, Record};
-/// let record = Record { tag: 3, wire_type: 1, value: 2, length: 2 };
-/// let mut table = [0; 4];
+/// let record = Record { tag: 3, wire_type: 1, value: 2, length: 2, key: 0 };
+/// let mut table = [0; 5];
 /// assert_eq!(read_payload(&[0x0D, 0x02, 0x04, 0x07], record, &mut table), Ok(Read { place: 2, count: 1 }));
-/// assert_eq!(table, [1, 0, 7, 0]);
+/// assert_eq!(table, [1, 0, 7, 0, 0]);
 /// ```
 pub fn read_payload(
     message: &[u8],
     record: Record,
     table: &mut [u64],
 ) -> Result<Read, RefusedRead> {
-    let Record { tag, wire_type, value, length } = record;
+    let Record { tag, wire_type, value, length, key } = record;
     let (s, len, to, words) = (message.as_ptr(), message.len(), table.as_mut_ptr(), table.len());
-    read(unsafe { ffi::capgauze_read_payload(s, len, tag, wire_type, value, length, to, words) })
+    read(unsafe { ffi::capgauze_read_payload(s, len, tag, wire_type, value, length, key, to, words) })
+}
+
+/// Where the parts of a field stand in the message that its record was read from; `None` for a record without a key, or one that
+/// is not of this message.
+///
+/// ```
+/// # use capgauze::{field_parts, Parts, Record};
+/// let record = Record { tag: 3, wire_type: 1, value: 2, length: 2, key: 0 };
+/// let parts = Parts { key: 0, length: Some(1), value: 2, end: 4 };
+/// assert_eq!(field_parts(&[0x0D, 0x02, 0xC0, 0xDE], record), Some(parts));
+/// ```
+pub fn field_parts(message: &[u8], record: Record) -> Option<Parts> {
+    if record.key == NO_KEY {
+        return None;
+    }
+    let key = record.key as usize;
+    let behind = decode_varint(message, key).ok()?.next;
+    let (length, value, end) = match record.field()?.value {
+        Value::Varint(_) => (None, behind, decode_varint(message, behind).ok()?.next),
+        Value::LengthDelimited { start, length } => (Some(behind), start, start.checked_add(length)?),
+        Value::ThirtyTwoBit(_) => (None, behind, behind + 4),
+        Value::SixtyFourBit(_) => (None, behind, behind + 8),
+    };
+    Some(Parts { key, length, value, end })
+}
+
+/// The whole field of a record, its key, its length and its value, as a part of the message that the record was read from.
+/// `None` as [`field_parts`].
+///
+/// ```
+/// # use capgauze::{field_bytes, Record};
+/// let record = Record { tag: 1, wire_type: 0, value: 128, length: 0, key: 2 };
+/// assert_eq!(field_bytes(&[0x04, 0x07, 0x00, 0x80, 0x00], record), Some(&[0x00, 0x80, 0x00][..]));
+/// ```
+pub fn field_bytes(message: &[u8], record: Record) -> Option<&[u8]> {
+    let parts = field_parts(message, record)?;
+    message.get(parts.key..parts.end)
 }
 
 /// Reads the whole message: the only value of a tag, or `None`. Refusals: TooLong, Truncated, InvalidVarint,
@@ -540,6 +590,168 @@ pub fn read_line(line: &[u8], message_len: usize, index: &mut [u64]) -> Result<u
     length(unsafe { ffi::capgauze_read_line(line.as_ptr(), line.len(), message_len, to, words) })
 }
 
+// ---- Corrections over an original ----
+// Both are messages, and both are read whole, the original first.
+
+/// Which of two messages supplies a tag: the correction, if it has a field of it, else the original; `None` where neither has.
+/// Refusals in order: TooLong, Truncated, InvalidVarint, TagOverflowed of the original; those of the correction; Repeated,
+/// where the supplier has more than one field of the tag.
+///
+/// ```
+/// # use capgauze::{corrected_by, Refusal, Supplier};
+/// let (original, correction) = ([0x04, 0x07, 0x04, 0x08, 0x00, 0x09], [0x08, 0x05]);
+/// assert_eq!(corrected_by(&original, &correction, 1), Ok(Some(Supplier::Original)));
+/// assert_eq!(corrected_by(&original, &correction, 2), Ok(Some(Supplier::Correction)));
+/// assert_eq!(corrected_by(&original, &correction, 3), Ok(None));
+/// assert_eq!(corrected_by(&original, &[], 2), Err(Refusal::Repeated));
+/// ```
+pub fn corrected_by(
+    original: &[u8],
+    correction: &[u8],
+    tag: u32,
+) -> Result<Option<Supplier>, Refusal> {
+    let (s, len, over, over_len) = both(original, correction);
+    let answer = unsafe { ffi::capgauze_corrected_by(s, len, over, over_len, tag) };
+    accepted(answer.number)?;
+    let suppliers = [Supplier::Original, Supplier::Correction];
+    Ok(suppliers.into_iter().find(|&supplier| supplier as u64 == answer.supplier))
+}
+
+/// The value of a tag, as a part of the message that supplies it: its bytes as they stand behind its key, a payload's without
+/// its length. Where [`corrected_by`] answers `None` or is refused, it is the empty part at the original's front. An empty
+/// payload has no bytes either: only [`corrected_by`] tells it from none.
+///
+/// ```
+/// # use capgauze::corrected_part;
+/// let (original, correction) = ([0x04, 0x80, 0x00, 0x05, 0x02, 0xC0, 0xDE], [0x09, 0x01, 0xFF]);
+/// assert_eq!(corrected_part(&original, &correction, 1), [0x80, 0x00]);
+/// assert_eq!(corrected_part(&original, &correction, 2), [0xFF]);
+/// assert_eq!(corrected_part(&original, &correction, 3), []);
+/// ```
+pub fn corrected_part<'a>(original: &'a [u8], correction: &'a [u8], tag: u32) -> &'a [u8] {
+    let (s, len, over, over_len) = both(original, correction);
+    let part = unsafe { ffi::capgauze_corrected_part(s, len, over, over_len, tag) };
+    let supplier = match corrected_by(original, correction, tag) {
+        Ok(Some(Supplier::Correction)) => correction,
+        _ => original,
+    };
+    &supplier[part.start as usize..][..part.length as usize]
+}
+
+/// Writes the original with the correction over it as one message to the buffer's front: its length. The correction's fields
+/// replace all fields of the original that have their tags; other tags stay. A buffer as long as both together is always
+/// enough. Refusals in order: as [`corrected_by`], without Repeated; TooLong for the result; NoRoom.
+///
+/// ```
+/// # use capgauze::{write_corrected, Refusal};
+/// let (original, correction) = ([0x00, 0x01, 0x04, 0x02, 0x04, 0x03], [0x04, 0x07, 0x00, 0x08]);
+/// let mut buf = [0xAA; 9];
+/// assert_eq!(write_corrected(&original, &correction, &mut buf), Ok(8));
+/// assert_eq!(buf, [0x00, 0x01, 0x04, 0x07, 0x00, 0x08, 0x04, 0x03, 0xAA]);
+/// assert_eq!(write_corrected(&original, &correction, &mut buf[..7]), Err(Refusal::NoRoom));
+/// ```
+pub fn write_corrected(
+    original: &[u8],
+    correction: &[u8],
+    buf: &mut [u8],
+) -> Result<usize, Refusal> {
+    let (s, len, over, over_len) = both(original, correction);
+    let (to, room) = (buf.as_mut_ptr(), buf.len());
+    length(unsafe { ffi::capgauze_write_corrected(s, len, over, over_len, to, room) })
+}
+
+/// The original with the correction over it. Refusals as [`write_corrected`]'s, without NoRoom.
+///
+/// ```
+/// # use capgauze::corrected;
+/// let (original, correction) = ([0x00, 0x01, 0x08, 0x02], [0x04, 0x05]);
+/// let result = corrected(&original, &correction)?;
+/// assert_eq!(result, [0x00, 0x01, 0x04, 0x05, 0x04, 0x02]);
+/// assert_eq!(corrected(&result, &correction)?, result);
+/// # Ok::<(), capgauze::Refusal>(())
+/// ```
+#[cfg(feature = "alloc")]
+pub fn corrected(original: &[u8], correction: &[u8]) -> Result<Vec<u8>, Refusal> {
+    let mut buf = vec![0; LIMIT.min(original.len().saturating_add(correction.len()))];
+    let length = write_corrected(original, correction, &mut buf)?;
+    buf.truncate(length);
+    Ok(buf)
+}
+
+fn both(original: &[u8], correction: &[u8]) -> (*const u8, usize, *const u8, usize) {
+    (original.as_ptr(), original.len(), correction.as_ptr(), correction.len())
+}
+
+// ---- Packed runs ----
+// A run is values of one wire type, one behind the other and without keys: all of a slice, which is a payload as a rule. Each
+// reader reads the whole run.
+
+/// How many values of a wire type a run has. Refusals in order: TooLong; Truncated, InvalidVarint as met.
+///
+/// ```
+/// # use capgauze::{run_count, Refusal, WireType};
+/// assert_eq!(run_count(&[0x05, 0x80, 0x00], WireType::Varint), Ok(2));
+/// assert_eq!(run_count(&[0x05, 0x80, 0x00], WireType::ThirtyTwoBit), Err(Refusal::Truncated));
+/// assert_eq!(run_count(&[], WireType::ThirtyTwoBit), Ok(0));
+/// ```
+pub fn run_count(s: &[u8], wire_type: WireType) -> Result<usize, Refusal> {
+    length(unsafe { ffi::capgauze_run_count(s.as_ptr(), s.len(), wire_type as u64) })
+}
+
+/// The value at a number of a run, counted from 0, or `None` past the last. Refusals as [`run_count`]'s, wherever in the run.
+///
+/// ```
+/// # use capgauze::{run_value, Refusal, Value, WireType};
+/// assert_eq!(run_value(&[0x05, 0x80, 0x00], WireType::Varint, 1), Ok(Some(Value::Varint(128))));
+/// assert_eq!(run_value(&[0x05, 0x80, 0x00], WireType::Varint, 2), Ok(None));
+/// assert_eq!(run_value(&[0x05, 0x80], WireType::Varint, 0), Err(Refusal::Truncated));
+/// let payload = Value::LengthDelimited { start: 1, length: 1 };
+/// assert_eq!(run_value(&[0x01, 0xAA, 0x00], WireType::LengthDelimited, 0), Ok(Some(payload)));
+/// ```
+pub fn run_value(s: &[u8], wire_type: WireType, number: usize) -> Result<Option<Value>, Refusal> {
+    picked(unsafe { ffi::capgauze_run_value(s.as_ptr(), s.len(), wire_type as u64, number) })
+}
+
+/// Reads the values of a run as records of tag 0, with no key, into a table: how many they are. As many records as the run has
+/// bytes always suffice. Refusals in order: as [`run_count`]'s; NoRoom.
+///
+/// ```
+/// # use capgauze::{read_run, Refusal, WireType, NO_KEY};
+/// let mut table = [77; 11];
+/// assert_eq!(read_run(&[0x05, 0x80, 0x00], WireType::Varint, &mut table), Ok(2));
+/// assert_eq!(table, [0, 0, 5, 0, NO_KEY, 0, 0, 128, 0, NO_KEY, 77]);
+/// assert_eq!(read_run(&[0x05, 0x06, 0x07], WireType::Varint, &mut table), Err(Refusal::NoRoom));
+/// ```
+pub fn read_run(s: &[u8], wire_type: WireType, table: &mut [u64]) -> Result<usize, Refusal> {
+    let (kind, to, words) = (wire_type as u64, table.as_mut_ptr(), table.len());
+    length(unsafe { ffi::capgauze_read_run(s.as_ptr(), s.len(), kind, to, words) })
+}
+
+/// Writes the values of the table's first `count` records, all of tag 0 and of the wire type, as a run to the buffer's front;
+/// payloads are taken from the source. Refusals in order: TooLong for the source; BadRecord for a count above the room; from
+/// the first record on BadRecord, if it is not good, of another type or of another tag; TooLong for the output; NoRoom, with
+/// the length needed.
+///
+/// ```
+/// # use capgauze::{write_run, WireType, Written, NO_KEY};
+/// let table = [0, 0, 5, 0, NO_KEY, 0, 0, 128, 0, NO_KEY];
+/// let mut buf = [0xAA; 4];
+/// assert_eq!(write_run(b"", &table, 2, WireType::Varint, &mut buf), Ok(Written { start: 0, length: 3 }));
+/// assert_eq!(buf, [0x05, 0x80, 0x00, 0xAA]);
+/// assert_eq!(write_run(b"", &table, 2, WireType::Varint, &mut []).unwrap_err().needed, 3);
+/// ```
+pub fn write_run(
+    source: &[u8],
+    table: &[u64],
+    count: usize,
+    wire_type: WireType,
+    buf: &mut [u8],
+) -> Result<Written, RefusedWrite> {
+    let (s, len, from, words) = (source.as_ptr(), source.len(), table.as_ptr(), table.len());
+    let (kind, to, room) = (wire_type as u64, buf.as_mut_ptr(), buf.len());
+    written(unsafe { ffi::capgauze_write_run(s, len, from, words, count, kind, to, room) })
+}
+
 // ---- Soundings ----
 
 /// Reads a whole sounding; its levels go into the table, five words each ([`Level::at`] puts names on them). Refusals: as a
@@ -560,6 +772,44 @@ pub fn read_sounding(s: &[u8], levels: &mut [u64]) -> Result<Sounding, Refusal> 
     let answer = unsafe { ffi::capgauze_read_sounding(s.as_ptr(), s.len(), levels.as_mut_ptr(), levels.len()) };
     accepted(answer.number)?;
     Ok(Sounding { station: answer.station, launch: answer.launch, levels: answer.levels as usize })
+}
+
+/// Reads a whole sounding of the second edition, whose levels have wind, and takes no field below a grade. Its levels go into the
+/// table, nine words each ([`Windy::at`] puts names on them). The answer has the grade that it reaches. Refusals: those of
+/// [`read_sounding`], a level's wind behind its other tags, NoRoom among them; last NotCanonical or UnknownField, by the first
+/// field below the grade in the order of the bytes, a level's own fields in its place. A refused call leaves the table as it was.
+///
+/// ```
+/// # use capgauze::{read_graded, Grade, Graded, Level, Refusal, Windy};
+/// // 7.0 m/s from 90 degrees at 100 Pa
+/// let sounding = [0x04, 0x01, 0x04, 0x00, 0x05, 0x06, 0x04, 0x64, 0x0C, 0x46, 0x04, 0x5A];
+/// let mut levels = [0; 9];
+/// let read = Graded { station: 1, launch: 0, levels: 1, grade: Grade::Canonical };
+/// assert_eq!(read_graded(&sounding, &mut levels, Grade::Canonical), Ok(read));
+/// let level = Level { pressure: 100, temperature: None, depression: None };
+/// assert_eq!(Windy::at(&levels, 0), Some(Windy { level, speed: Some(70), direction: Some(90) }));
+///
+/// // The vane iced up: the direction is missing, and that is written out as all ones.
+/// let iced = [&[0x04, 0x01, 0x04, 0x00, 0x05, 0x0E], &sounding[6..11], &[0xFF], &[0xFE; 8]].concat();
+/// assert_eq!(read_graded(&iced, &mut levels, Grade::HasExtensions), Err(Refusal::NotCanonical));
+/// let grade = Grade::NotCanonical;
+/// assert_eq!(read_graded(&iced, &mut levels, grade), Ok(Graded { grade, ..read }));
+/// assert_eq!(Windy::at(&levels, 0), Some(Windy { level, speed: Some(70), direction: None }));
+///
+/// // An unknown tag behind the levels.
+/// let extended = [&sounding[..], &[0x04, 0x01]].concat();
+/// assert_eq!(read_graded(&extended, &mut levels, Grade::Canonical), Err(Refusal::UnknownField));
+/// let grade = Grade::HasExtensions;
+/// assert_eq!(read_graded(&extended, &mut levels, grade), Ok(Graded { grade, ..read }));
+/// ```
+pub fn read_graded(s: &[u8], levels: &mut [u64], least: Grade) -> Result<Graded, Refusal> {
+    let (to, words) = (levels.as_mut_ptr(), levels.len());
+    let answer = unsafe { ffi::capgauze_read_graded(s.as_ptr(), s.len(), to, words, least as u64) };
+    accepted(answer.number)?;
+    let grade =
+        [Grade::NotCanonical, Grade::HasExtensions, Grade::Canonical][answer.grade as usize];
+    let (station, launch, levels) = (answer.station, answer.launch, answer.levels as usize);
+    Ok(Graded { station, launch, levels, grade })
 }
 
 // ---- Writing ----
@@ -641,8 +891,8 @@ pub fn key_len(last: u32, tag: u32) -> Result<usize, Refusal> {
 /// then OutOfOrder; TooLong for the output; NoRoom, with the length needed.
 ///
 /// ```
-/// # use capgauze::{encode_message, Written};
-/// let table = [1, 0, 7, 0, 3, 1, 0, 2];
+/// # use capgauze::{encode_message, Written, NO_KEY};
+/// let table = [1, 0, 7, 0, NO_KEY, 3, 1, 0, 2, NO_KEY];
 /// let mut buf = [0xAA; 7];
 /// assert_eq!(encode_message(b"hi", &table, 2, &mut buf), Ok(Written { start: 0, length: 6 }));
 /// assert_eq!(buf, [0x04, 0x07, 0x09, 0x02, b'h', b'i', 0xAA]);
@@ -660,8 +910,8 @@ pub fn encode_message(
 /// Writes it to the buffer's end. Refusals as [`encode_message`]'s.
 ///
 /// ```
-/// # use capgauze::{prepend_message, Written};
-/// let table = [1, 0, 7, 0, 3, 1, 0, 2];
+/// # use capgauze::{prepend_message, Written, NO_KEY};
+/// let table = [1, 0, 7, 0, NO_KEY, 3, 1, 0, 2, NO_KEY];
 /// let mut buf = [0xAA; 7];
 /// assert_eq!(prepend_message(b"hi", &table, 2, &mut buf), Ok(Written { start: 1, length: 6 }));
 /// assert_eq!(buf, [0xAA, 0x04, 0x07, 0x09, 0x02, b'h', b'i']);
@@ -684,14 +934,20 @@ pub fn prepend_message(
 /// ```
 #[cfg(feature = "alloc")]
 pub fn message(records: &[Record], source: &[u8]) -> Result<Vec<u8>, RefusedWrite> {
-    let words = |record: &Record| [record.tag, record.wire_type, record.value, record.length];
-    let table: Vec<u64> = records.iter().flat_map(words).collect();
+    let table: Vec<u64> = records.iter().flat_map(Record::words).collect();
+    with_room(|buf| encode_message(source, &table, records.len(), buf))
+}
+
+/// What a writer writes to the front of a buffer that has room for it.
+#[cfg(feature = "alloc")]
+fn with_room(
+    write: impl Fn(&mut [u8]) -> Result<Written, RefusedWrite>,
+) -> Result<Vec<u8>, RefusedWrite> {
     let mut buf = vec![0; 256];
-    let first = encode_message(source, &table, records.len(), &mut buf);
-    let written = match first {
+    let written = match write(&mut buf) {
         Err(RefusedWrite { refusal: Refusal::NoRoom, needed, .. }) => {
             buf = vec![0; needed];
-            encode_message(source, &table, records.len(), &mut buf)?
+            write(&mut buf)?
         }
         answer => answer?,
     };
@@ -699,26 +955,111 @@ pub fn message(records: &[Record], source: &[u8]) -> Result<Vec<u8>, RefusedWrit
     Ok(buf)
 }
 
-/// Puts a record behind all of equal or lower tag among the table's first `count`; later ones move up one. The new count.
+/// Puts a record with no key behind all of equal or lower tag among the table's first `count`; later ones move up one. The new
+/// count.
 /// Refusals in order: TooLong for the source; BadRecord for a count above the room; from the first record on BadRecord,
 /// then OutOfOrder; BadRecord for the new one; NoRoom.
 ///
 /// ```
-/// # use capgauze::{insert, Record};
-/// let mut table = [1, 0, 7, 0, 77, 77, 77, 77];
-/// assert_eq!(insert(b"", &mut table, 1, Record::default()), Ok(2));
-/// assert_eq!(table, [0, 0, 0, 0, 1, 0, 7, 0]);
+/// # use capgauze::{insert, NewRecord, NO_KEY};
+/// let mut table = [1, 0, 7, 0, 0, 77, 77, 77, 77, 77];
+/// assert_eq!(insert(b"?", &mut table, 1, NewRecord::default()), Ok(2));
+/// assert_eq!(table, [0, 0, 0, 0, NO_KEY, 1, 0, 7, 0, 0]);
 /// ```
 pub fn insert(
     source: &[u8],
     table: &mut [u64],
     count: usize,
-    record: Record,
+    record: NewRecord,
 ) -> Result<usize, RefusedInsert> {
-    let Record { tag, wire_type, value, length } = record;
+    let NewRecord { tag, wire_type, value, length } = record;
     let (s, len, to, words) = (source.as_ptr(), source.len(), table.as_mut_ptr(), table.len());
     let answer =
         unsafe { ffi::capgauze_insert(s, len, to, words, count, tag, wire_type, value, length) };
     let index = answer.value as usize;
     accepted(answer.number).map(|()| index).map_err(|refusal| RefusedInsert { refusal, index })
+}
+
+// ---- A working copy ----
+// A table over one room of bytes, in which all its payloads lie. No two of them overlap, and every key word is NO_KEY. `WorkingCopy`
+// owns both. Refusals of all three, in order: TooLong for the room; BadRecord for a count above the table's room; from the first
+// record on BadRecord, then OutOfOrder; BadRecord for a payload that overlaps an earlier one; BadRecord for a key word; then those of
+// each.
+
+/// Takes out the record at an index, of any type; later ones move down one. The new count. The words from the old last record on
+/// stay. Refusals: as for any edit, TooLong, BadRecord, OutOfOrder; BadRecord for an index not below the count.
+///
+/// ```
+/// # use capgauze::{remove_record, NO_KEY};
+/// let mut table = [1, 0, 7, 0, NO_KEY, 3, 1, 0, 2, NO_KEY];
+/// assert_eq!(remove_record(b"hi", &mut table, 2, 0), Ok(1));
+/// assert_eq!(table[..5], [3, 1, 0, 2, NO_KEY]);
+/// assert_eq!(remove_record(b"hi", &mut table, 1, 1).unwrap_err().index, 1);
+/// ```
+pub fn remove_record(
+    room: &[u8],
+    table: &mut [u64],
+    count: usize,
+    index: usize,
+) -> Result<usize, RefusedEdit> {
+    let (from, len, to, words) = (room.as_ptr(), room.len(), table.as_mut_ptr(), table.len());
+    edited(unsafe { ffi::capgauze_remove_record(from, len, to, words, count, index) })
+}
+
+/// Gives the payload at an index other bytes. They go behind the payload that ends last; if they do not fit there, the other
+/// payloads are packed at the room's front in order of place, and the bytes go behind them. The count. Refusals: as for any edit;
+/// BadRecord for an index not below the count, or for a record that is no payload; NoRoom, exactly if the other payloads' bytes and
+/// the new ones are more than the room.
+///
+/// ```
+/// # use capgauze::{replace_payload, Refusal, NO_KEY};
+/// let (mut room, mut table) = (*b"..hi", [3, 1, 2, 2, NO_KEY]);
+/// assert_eq!(replace_payload(&mut room, &mut table, 1, 0, b"you"), Ok(1));
+/// assert_eq!((&room, table), (b"youi", [3, 1, 0, 3, NO_KEY]));
+/// assert_eq!(replace_payload(&mut room, &mut table, 1, 0, b"hello").unwrap_err().refusal, Refusal::NoRoom);
+/// ```
+pub fn replace_payload(
+    room: &mut [u8],
+    table: &mut [u64],
+    count: usize,
+    index: usize,
+    bytes: &[u8],
+) -> Result<usize, RefusedEdit> {
+    let (into, room_len, to, words) =
+        (room.as_mut_ptr(), room.len(), table.as_mut_ptr(), table.len());
+    let (from, len) = (bytes.as_ptr(), bytes.len());
+    edited(unsafe {
+        ffi::capgauze_replace_payload(into, room_len, to, words, count, index, from, len)
+    })
+}
+
+/// Puts a payload behind all records of equal or lower tag; later ones move up one. Its bytes go where [`replace_payload`] has
+/// them. The new count. Refusals: as for any edit; NoRoom, exactly if the payloads' bytes and the new ones are more than the room,
+/// or the table is full.
+///
+/// ```
+/// # use capgauze::{insert_payload, NO_KEY};
+/// let (mut room, mut table) = (*b"..hi", [3, 1, 2, 2, NO_KEY, 77, 77, 77, 77, 77]);
+/// assert_eq!(insert_payload(&mut room, &mut table, 1, 0, b"?"), Ok(2));
+/// // packed, since nothing fits behind `hi`
+/// assert_eq!((&room, table), (b"hi?i", [0, 1, 2, 1, NO_KEY, 3, 1, 0, 2, NO_KEY]));
+/// ```
+pub fn insert_payload(
+    room: &mut [u8],
+    table: &mut [u64],
+    count: usize,
+    tag: u32,
+    bytes: &[u8],
+) -> Result<usize, RefusedEdit> {
+    let (into, room_len, to, words) =
+        (room.as_mut_ptr(), room.len(), table.as_mut_ptr(), table.len());
+    let (from, len) = (bytes.as_ptr(), bytes.len());
+    edited(unsafe {
+        ffi::capgauze_insert_payload(into, room_len, to, words, count, tag, from, len)
+    })
+}
+
+fn edited(answer: ffi::Number) -> Result<usize, RefusedEdit> {
+    let index = answer.value as usize;
+    accepted(answer.number).map(|()| index).map_err(|refusal| RefusedEdit { refusal, index })
 }

@@ -54,11 +54,29 @@ pub struct Written {
     pub length: usize,
 }
 
-/// A record: four words of a table. Any words are a record; a good one has a tag up to 4,294,967,295, a wire type's
-/// number, the length word of its type (0, the payload's length, 4, 8), a four-byte value below 2^32, and a payload
-/// inside its source.
-#[derive(Clone, Copy, Debug, Default, PartialEq, Eq, Hash)]
+/// A record: five words of a table. Any words are a record; a good one has a tag up to 4,294,967,295, a wire type's
+/// number, the length word of its type (0, the payload's length, 4, 8), a four-byte value below 2^32, a payload inside
+/// its source, and a key that is [`NO_KEY`] or a place inside its source. What is written of it does not hang on its key.
+#[derive(Clone, Copy, Debug, PartialEq, Eq, Hash)]
 pub struct Record {
+    pub tag: u64,
+    pub wire_type: u64,
+    /// The value, or the payload's start.
+    pub value: u64,
+    pub length: u64,
+    /// Where the field's key starts, or [`NO_KEY`].
+    pub key: u64,
+}
+
+/// The words of a record.
+pub const RECORD_WORDS: usize = 5;
+
+/// The key word of a record that has none: it was put in by hand, or read from a run.
+pub const NO_KEY: u64 = u64::MAX;
+
+/// A record that is put in by hand: it has no key.
+#[derive(Clone, Copy, Debug, Default, PartialEq, Eq, Hash)]
+pub struct NewRecord {
     pub tag: u64,
     pub wire_type: u64,
     /// The value, or the payload's start.
@@ -66,25 +84,32 @@ pub struct Record {
     pub length: u64,
 }
 
-/// The words of a record.
-pub const RECORD_WORDS: usize = 4;
+/// Where the parts of a field start in its message, and where it ends.
+#[derive(Clone, Copy, Debug, PartialEq, Eq, Hash)]
+pub struct Parts {
+    pub key: usize,
+    /// The length of a payload; other values have none.
+    pub length: Option<usize>,
+    pub value: usize,
+    pub end: usize,
+}
 
 impl Record {
     /// The record at an index of a table, if the table has room for it.
     ///
     /// ```
     /// # use capgauze::Record;
-    /// let table = [3, 1, 12, 2, 77];
-    /// assert_eq!(Record::at(&table, 0), Some(Record { tag: 3, wire_type: 1, value: 12, length: 2 }));
+    /// let table = [3, 1, 12, 2, 10, 77];
+    /// assert_eq!(Record::at(&table, 0), Some(Record { tag: 3, wire_type: 1, value: 12, length: 2, key: 10 }));
     /// assert_eq!(Record::at(&table, 1), None);
     /// ```
     pub fn at(table: &[u64], index: usize) -> Option<Record> {
         let row = table.chunks_exact(RECORD_WORDS).nth(index)?;
-        Some(Record { tag: row[0], wire_type: row[1], value: row[2], length: row[3] })
+        Some(Record { tag: row[0], wire_type: row[1], value: row[2], length: row[3], key: row[4] })
     }
 
     /// The field that a good record stands for. A record whose tag, type or four-byte value does not fit stands for
-    /// none; whether its payload lies in a source is not looked at.
+    /// none; whether its payload or its key lies in a source is not looked at.
     pub fn field(&self) -> Option<Field> {
         let tag = u32::try_from(self.tag).ok()?;
         let value = match (self.wire_type, self.length) {
@@ -98,13 +123,48 @@ impl Record {
         };
         Some(Field { tag, value })
     }
+
+    #[cfg(feature = "alloc")]
+    pub(crate) fn words(&self) -> [u64; RECORD_WORDS] {
+        [self.tag, self.wire_type, self.value, self.length, self.key]
+    }
+}
+
+/// Tag 0, the number 0, no key.
+impl Default for Record {
+    fn default() -> Record {
+        NewRecord::default().into()
+    }
+}
+
+impl From<NewRecord> for Record {
+    fn from(record: NewRecord) -> Record {
+        let NewRecord { tag, wire_type, value, length } = record;
+        Record { tag, wire_type, value, length, key: NO_KEY }
+    }
+}
+
+impl From<Record> for NewRecord {
+    /// Without its key.
+    fn from(record: Record) -> NewRecord {
+        let Record { tag, wire_type, value, length, .. } = record;
+        NewRecord { tag, wire_type, value, length }
+    }
+}
+
+impl From<Field> for NewRecord {
+    fn from(field: Field) -> NewRecord {
+        Record::from(field).into()
+    }
 }
 
 impl From<Field> for Record {
+    /// With no key.
+    ///
     /// ```
     /// # use capgauze::{Field, Record, Value};
     /// let field = Field { tag: 7, value: Value::ThirtyTwoBit(5) };
-    /// assert_eq!(Record::from(field), Record { tag: 7, wire_type: 2, value: 5, length: 4 });
+    /// assert_eq!(Record::from(field), Record { tag: 7, wire_type: 2, value: 5, length: 4, key: capgauze::NO_KEY });
     /// assert_eq!(Record::from(field).field(), Some(field));
     /// ```
     fn from(field: Field) -> Record {
@@ -114,7 +174,7 @@ impl From<Field> for Record {
             Value::ThirtyTwoBit(value) => (2, value.into(), 4),
             Value::SixtyFourBit(value) => (3, value, 8),
         };
-        Record { tag: field.tag.into(), wire_type, value, length }
+        Record { tag: field.tag.into(), wire_type, value, length, key: NO_KEY }
     }
 }
 
@@ -145,6 +205,13 @@ impl Entry {
     }
 }
 
+/// Which of two messages supplies a tag: the correction, if it has a field of it, else the original.
+#[derive(Clone, Copy, Debug, PartialEq, Eq, Hash)]
+pub enum Supplier {
+    Original = 1,
+    Correction = 2,
+}
+
 /// What a sounding says of itself: its station, its launch in seconds, and the number of its levels.
 #[derive(Clone, Copy, Debug, PartialEq, Eq, Hash)]
 pub struct Sounding {
@@ -173,6 +240,47 @@ impl Level {
     }
 }
 
+/// The grade of a field, and of a sounding the least of its fields' and its levels' fields'. They are ordered.
+#[derive(Clone, Copy, Debug, PartialEq, Eq, PartialOrd, Ord, Hash)]
+pub enum Grade {
+    /// A value of all ones is written out, where leaving the tag away would do.
+    NotCanonical = 0,
+    /// The tag is unknown.
+    HasExtensions = 1,
+    Canonical = 2,
+}
+
+/// What a sounding of the second edition says of itself, and the grade that it reaches.
+#[derive(Clone, Copy, Debug, PartialEq, Eq, Hash)]
+pub struct Graded {
+    pub station: u64,
+    pub launch: u64,
+    pub levels: usize,
+    pub grade: Grade,
+}
+
+/// A level of the second edition: one of the first, and wind. The speed is in tenths of m/s, the direction in degrees; `None`
+/// where missing.
+#[derive(Clone, Copy, Debug, PartialEq, Eq, Hash)]
+pub struct Windy {
+    pub level: Level,
+    pub speed: Option<u64>,
+    pub direction: Option<u64>,
+}
+
+impl Windy {
+    /// The level at an index of a table that [`read_graded`](crate::read_graded) filled, if the table has it.
+    pub fn at(levels: &[u64], index: usize) -> Option<Windy> {
+        let words = levels.chunks_exact(crate::GRADED_WORDS).nth(index)?;
+        let (first, wind) = words.split_at(crate::LEVEL_WORDS);
+        Some(Windy {
+            level: Level::at(first, 0)?,
+            speed: (wind[0] != 0).then(|| wind[1]),
+            direction: (wind[2] != 0).then(|| wind[3]),
+        })
+    }
+}
+
 /// Why a call was refused.
 #[derive(Clone, Copy, Debug, PartialEq, Eq, Hash)]
 pub enum Refusal {
@@ -184,9 +292,9 @@ pub enum Refusal {
     TagOverflowed = 3,
     /// Slice, or bytes to be written, above [`LIMIT`](crate::LIMIT).
     TooLong = 4,
-    /// A good message with more fields or tags than there is room for, a buffer too short, a full table.
+    /// A good message or run with more fields, tags or values than there is room for, a buffer too short, a full table or room.
     NoRoom = 5,
-    /// A record that is not good, or a count above the room.
+    /// A record that is not good, or not one of the run or of a working copy; a count above the room, an index not below the count.
     BadRecord = 6,
     /// A tag below the one before it.
     OutOfOrder = 7,
@@ -194,7 +302,7 @@ pub enum Refusal {
     BadCap = 8,
     /// A sounding's field of another wire type.
     WrongWireType = 9,
-    /// A station, pressure, temperature or depression outside its range.
+    /// A station, pressure, temperature, depression, wind speed or direction outside its range.
     OutOfRange = 10,
     /// A tag that stands more than once where one field of it is wanted.
     Repeated = 11,
@@ -202,6 +310,10 @@ pub enum Refusal {
     BadIndex = 12,
     /// A sounding without station or launch, or a level without pressure.
     MissingField = 13,
+    /// A sounding's first field below the grade taken is a value of all ones, written out.
+    NotCanonical = 14,
+    /// A sounding's first field below the grade taken has an unknown tag.
+    UnknownField = 15,
 }
 
 impl Refusal {
@@ -325,5 +437,9 @@ refusals! {
     /// An insertion was refused: at a record's index, the room where the count is above it, the count where the new record
     /// is not good; else 0.
     RefusedInsert { index: usize }
+        |r, f| write!(f, "{}, index {}", r.refusal, r.index);
+    /// An edit of a working copy was refused: at a record's index, also where there is no such record; the table's room where the
+    /// count is above it; else 0.
+    RefusedEdit { index: usize }
         |r, f| write!(f, "{}, index {}", r.refusal, r.index);
 }

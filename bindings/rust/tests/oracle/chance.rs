@@ -1,6 +1,7 @@
 //! Inputs by chance.
+use super::told::{fours, keyed, Row};
 use bilrost::Blob;
-use capgauze::LIMIT;
+use capgauze::{LIMIT, NO_KEY};
 
 /// splitmix64
 pub struct Chance(pub u64);
@@ -40,28 +41,36 @@ impl Chance {
     }
 
     /// Good records of a source, in rising order.
-    pub fn records(&mut self, source: &[u8], count: usize) -> Vec<[u64; 4]> {
+    pub fn records(&mut self, source: &[u8], count: usize) -> Vec<Row> {
         let mut tag = 0u32;
         let mut record = |_| {
             tag = tag.saturating_add(self.rise());
-            let (kind, number) = (self.below(4), self.number());
-            let start = self.below(source.len() + 1);
-            let length = self.below(source.len() - start + 1) as u64;
-            match kind {
-                0 => [tag.into(), 0, number, 0],
-                1 => [tag.into(), 1, start as u64, length],
-                2 => [tag.into(), 2, number as u32 as u64, 4],
-                _ => [tag.into(), 3, number, 8],
-            }
+            let kind = self.below(4);
+            self.record(source, tag, kind)
         };
         (0..count).map(&mut record).collect()
+    }
+
+    /// A good record of a source, with that tag and type, and with a place for its key or none.
+    pub fn record(&mut self, source: &[u8], tag: u32, kind: usize) -> Row {
+        let number = self.number();
+        let start = self.below(source.len() + 1);
+        let length = self.below(source.len() - start + 1) as u64;
+        let four = match kind {
+            0 => [tag.into(), 0, number, 0],
+            1 => [tag.into(), 1, start as u64, length],
+            2 => [tag.into(), 2, number as u32 as u64, 4],
+            _ => [tag.into(), 3, number, 8],
+        };
+        let key = if start < source.len() { self.one(&[start as u64, NO_KEY]) } else { NO_KEY };
+        keyed(four, key)
     }
 
     pub fn message(&mut self) -> Vec<u8> {
         let len = self.one(&[0, 1, 3, 20]);
         let source = self.bytes(len);
         let count = self.one(&[1, 2, 3, 5, 9]);
-        Blob::write(&source, &self.records(&source, count)).0
+        Blob::write(&source, &fours(&self.records(&source, count))).0
     }
 
     pub fn damage(&mut self, s: &mut Vec<u8>) {
@@ -105,7 +114,7 @@ impl Chance {
         let mut records = self.records(&source, count);
         let most = self.one(&[0, 0, 1, 2]);
         records.iter_mut().for_each(|record| record[0] = record[0].min(most)); // they rise from unit to unit
-        let unit = Blob::write(&source, &records).0;
+        let unit = Blob::write(&source, &fours(&records)).0;
         let len = about + 2 - self.one(&[0, 1, 2, 3, 1_000, 60_000]);
         let mut s = unit.repeat(len / unit.len());
         match self.below(4) {

@@ -18,8 +18,8 @@ use chance::Chance;
 use std::sync::atomic::{AtomicU64, Ordering};
 use std::time::{Instant, SystemTime, UNIX_EPOCH};
 use told::{
-    expected_read, good, key_fault, limited, looked, named, skip_fault, step_fault, tested, value,
-    value_fault,
+    expected_read, fours, good, key_fault, keyed, limited, looked, named, skip_fault, step_fault, tested, value,
+    value_fault, Row,
 };
 
 const FILL: u64 = 0xA5A5_A5A5_A5A5_A5A5;
@@ -63,13 +63,15 @@ fn short_ones() {
             for at in 0..=s.len() + 1 {
                 for end in 0..=s.len() + 1 {
                     against.parts(s, at, end);
-                    against.message(s, at, end, at + 4 * end);
+                    against.cap_and_cut(s, at, end);
+                    against.message(s, at, end, at + RECORD_WORDS * end);
                     for tag in 0..2 {
                         against.one_entry(s, [tag, at as u64, end as u64]);
                     }
                 }
             }
             against.index(s);
+            against.run(s);
         }
         let longer = |s: &Vec<u8>| LETTERS.map(|letter| [&s[..], &[letter]].concat());
         slices = slices.iter().flat_map(longer).collect();
@@ -77,18 +79,53 @@ fn short_ones() {
     println!("{} answers, none differs", against.answers);
 }
 
-/// Compares until there are so many answers, on each processor its own inputs.
-fn run(wanted: u64) {
-    let seed = match std::env::var("CAPGAUZE_SEED") {
+/// Every slice of up to four bytes of four under every one of them.
+#[test]
+fn short_corrections() {
+    const LETTERS: [u8; 4] = [0x00, 0x01, 0x04, 0x80];
+    let mut against = Against::new(0);
+    let mut slices = vec![Vec::new()];
+    for shorter in 0..1 + 4 + 16 + 64 {
+        slices.extend(LETTERS.map(|letter| [&slices[shorter][..], &[letter]].concat()));
+    }
+    for original in &slices {
+        for correction in &slices {
+            against.pair(original, correction);
+        }
+    }
+    println!("{} answers, none differs", against.answers);
+}
+
+/// Working copies of some hundred edits each, until there are a million.
+#[test]
+fn a_million_edits() {
+    let seed = seed();
+    println!("CAPGAUZE_SEED={seed} for edits");
+    let mut against = Against::new(seed);
+    while against.edits < 1_000_000 {
+        let edits = against.chance.below(400);
+        against.edited(edits);
+    }
+    println!("{} edits, {} answers, none differs", against.edits, against.answers);
+}
+
+fn seed() -> u64 {
+    match std::env::var("CAPGAUZE_SEED") {
         Ok(seed) => seed.parse().expect("a seed is a number"),
         Err(_) => SystemTime::now().duration_since(UNIX_EPOCH).unwrap().as_nanos() as u64,
-    };
+    }
+}
+
+/// Compares until there are so many answers, on each processor its own inputs.
+fn run(wanted: u64) {
+    let seed = seed();
     let threads = std::thread::available_parallelism().map_or(1, |n| n.get() as u64);
     println!("CAPGAUZE_SEED={seed} on {threads} threads");
     let (answers, begun) = (AtomicU64::new(0), Instant::now());
+    let met: [AtomicU64; 5] = Default::default();
     std::thread::scope(|scope| {
         for thread in 0..threads {
-            let answers = &answers;
+            let (answers, met) = (&answers, &met);
             scope.spawn(move || {
                 let mut against =
                     Against::new(seed.wrapping_add(thread.wrapping_mul(0xD1B5_4A32_D192_ED03)));
@@ -100,10 +137,15 @@ fn run(wanted: u64) {
                         println!("{after} answers, {} s", begun.elapsed().as_secs());
                     }
                 }
+                for (sum, times) in met.iter().zip(against.met) {
+                    sum.fetch_add(times, Ordering::Relaxed);
+                }
             });
         }
     });
-    let answers = answers.into_inner();
+    let (answers, met) = (answers.into_inner(), met.map(AtomicU64::into_inner));
+    caps::tell(met);
+    assert!(met.iter().all(|&times| times > 0), "a pair of a cap and a cut was not met");
     println!("{answers} answers, none differs, {} s", begun.elapsed().as_secs());
 }
 
@@ -112,6 +154,8 @@ fn run(wanted: u64) {
 struct Against {
     chance: Chance,
     answers: u64,
+    edits: u64,
+    met: [u64; 5], // pairs of refusals of a cap and a cut
 }
 
 /// Stops with the call's words where an answer differs.
@@ -126,17 +170,27 @@ macro_rules! same {
     }};
 }
 
+mod caps;
+mod corrections;
+mod edits;
 mod indexes;
+mod runs;
 
 impl Against {
     fn new(seed: u64) -> Against {
-        Against { chance: Chance(seed), answers: 0 }
+        Against { chance: Chance(seed), answers: 0, edits: 0, met: [0; 5] }
     }
 
     fn rounds(&mut self, count: usize) {
         for round in 0..count {
             self.numbers();
             self.table();
+            self.packed();
+            self.copies();
+            self.relayed();
+            if round == 0 {
+                self.long_run();
+            }
             let s = if round == 0 { self.long_ones() } else { self.chance.slice() };
             self.whole(&s);
             for _ in 0..3 {
@@ -148,21 +202,23 @@ impl Against {
         }
     }
 
-    /// A long slice, on whose way a long payload is shown and a long output written.
+    /// A long slice, on whose way a long payload is shown, a long output written and a long result.
     fn long_ones(&mut self) -> Vec<u8> {
         let s = self.chance.long_slice();
         let (start, cut) = (self.chance.below(3), self.chance.one(&[0, 1, 5, 60_000]));
         let length = s.len().saturating_sub(start + cut) as u64;
-        self.payload(&s, [0, 1, start as u64, length]);
+        let key = self.chance.one(&[NO_KEY, 0, s.len() as u64]);
+        self.payload(&s, [0, 1, start as u64, length, key]);
 
         let part = &s[..self.chance.one(&[1_000, 2_000]).min(s.len())];
         let times = LIMIT / (part.len() + 3);
-        let mut table = [0, 1, 0, part.len() as u64].repeat(times);
+        let mut table = [0, 1, 0, part.len() as u64, NO_KEY].repeat(times);
         let spare = LIMIT - times * (part.len() + 3);
         let last = (spare + 1).saturating_sub(self.chance.below(6)) as u64;
-        table.extend([0, 1, 0, last.min(part.len() as u64)]);
+        table.extend([0, 1, 0, last.min(part.len() as u64), NO_KEY]);
         let room = self.chance.one(&[0, LIMIT - 1, LIMIT, LIMIT + 1]);
         self.write(part, &table, times + 1, room);
+        self.long_result();
         s
     }
 
@@ -293,8 +349,9 @@ impl Against {
     /// A whole message: read, picked, its payloads read, and written again.
     fn whole(&mut self, s: &[u8]) {
         let spare = self.chance.below(4);
-        self.message(s, 0, s.len(), 4 * (s.len() / 2) + spare);
+        self.message(s, 0, s.len(), RECORD_WORDS * (s.len() / 2) + spare);
         self.index(s);
+        self.corrected(s);
         if s.len() > LIMIT {
             return;
         }
@@ -302,7 +359,7 @@ impl Against {
             assert!(Blob::copies_agree(s, 0, s.len()), "{s:02X?}");
         }
         let read = Blob::read(s, 0, s.len());
-        let records = read.as_ref().map_or(&[][..], |(records, _)| records);
+        let records = expected_read(s, 0, s.len(), s.len()).1;
         let tag = match records.len() {
             0 => self.chance.rise(),
             len => records[self.chance.below(len)][0] as u32,
@@ -337,13 +394,16 @@ impl Against {
         for row in records.iter().take(4) {
             self.payload(s, *row);
         }
+        let parts: Vec<&[u8]> =
+            records.iter().filter_map(|row| field_bytes(s, Record::at(row, 0)?)).collect();
+        same!(self, parts.concat(), s, s);
         self.write(s, &records.concat(), records.len(), s.len());
     }
 
-    fn payload(&mut self, s: &[u8], row: [u64; 4]) {
+    fn payload(&mut self, s: &[u8], row: Row) {
         let record = Record::at(&row, 0).unwrap();
         let part = match row {
-            [_, 1, start, length] if good(s, row) => &s[start as usize..][..length as usize],
+            [_, 1, start, length, _] if good(s, row) => &s[start as usize..][..length as usize],
             _ => &s[..0],
         };
         let ours = payload_of(s, record);
@@ -371,18 +431,18 @@ impl Against {
         let mut records = self.chance.records(&source, count + 1);
         let mut new = records.swap_remove(self.chance.below(count + 1));
         if self.chance.below(8) == 0 {
-            new[self.chance.below(4)] = self.chance.number();
+            new[self.chance.below(RECORD_WORDS)] = self.chance.number();
         }
         if self.chance.below(4) == 0 && count > 0 {
-            let (i, word) = (self.chance.below(count), self.chance.below(4));
-            let number = self.chance.number();
-            records[i][word] =
-                self.chance.one(&[number, 0, 1 << 32, u64::MAX, records[i][word].wrapping_add(1)]);
+            let (i, word) = (self.chance.below(count), self.chance.below(RECORD_WORDS));
+            let (number, end) = (self.chance.number(), len as u64);
+            let more = records[i][word].wrapping_add(1);
+            records[i][word] = self.chance.one(&[number, 0, end, 1 << 32, u64::MAX, more]);
         } else if self.chance.below(8) != 0 {
             records.sort_by_key(|record| record[0]);
         }
         let mut table = records.concat();
-        table.resize(4 * count + self.chance.below(9), FILL);
+        table.resize(RECORD_WORDS * count + self.chance.below(9), FILL);
         let any = self.chance.bits() as usize;
         let count = self.chance.one(&[
             count,
@@ -394,7 +454,8 @@ impl Against {
             any,
             (1 << 62) + count,
         ]);
-        let len = Blob::write(&source, &tested(&source, &table, count).unwrap_or_default()).2;
+        let good = tested(&source, &table, count).unwrap_or_default();
+        let len = Blob::write(&source, &fours(&good)).2;
         let room = self.chance.one(&[len, len, len + 1, len + 9, len.saturating_sub(1), 0]);
         self.write(&source, &table, count, room);
         self.insertion(&source, table, count, new);
@@ -405,7 +466,7 @@ impl Against {
     fn write(&mut self, source: &[u8], table: &[u64], count: usize, room: usize) {
         let refused = |(refusal, index)| RefusedWrite { refusal, index, needed: 0 };
         let bytes = tested(source, table, count).and_then(|records| {
-            let (forward, prepended, len) = Blob::write(source, &records);
+            let (forward, prepended, len) = Blob::write(source, &fours(&records));
             assert!(forward == prepended && forward.len() == len);
             (len <= LIMIT).then_some(forward).ok_or((Refusal::TooLong, 0))
         });
@@ -429,26 +490,28 @@ impl Against {
         }
     }
 
-    fn insertion(&mut self, source: &[u8], mut table: Vec<u64>, count: usize, new: [u64; 4]) {
+    fn insertion(&mut self, source: &[u8], mut table: Vec<u64>, count: usize, new: Row) {
+        let given = Record::at(&new, 0).unwrap().into();
+        let new = keyed(told::four(new), NO_KEY);
         let mut expected = table.clone();
         let answer = tested(source, &table, count).and_then(|records| {
             if !good(source, new) {
                 return Err((Refusal::BadRecord, count));
             }
-            if count == table.len() / 4 {
+            if count == table.len() / RECORD_WORDS {
                 return Err((Refusal::NoRoom, 0));
             }
             // where the Rust's insertion puts it is seen in what it writes
-            let inserted = Blob::write(source, &[&records[..], &[new]].concat()).0;
+            let inserted = Blob::write(source, &fours(&[&records[..], &[new]].concat())).0;
             let at = records.iter().filter(|record| record[0] <= new[0]).count();
             let after = [&records[..at], &[new], &records[at..]].concat();
-            assert_eq!(Blob::write(source, &after).0, inserted);
-            expected[..4 * after.len()].copy_from_slice(&after.concat());
+            assert_eq!(Blob::write(source, &fours(&after)).0, inserted);
+            expected[..RECORD_WORDS * after.len()].copy_from_slice(&after.concat());
             Ok(count + 1)
         });
         let answer = answer.map_err(|(refusal, index)| RefusedInsert { refusal, index });
         let before = table.clone();
-        let ours = insert(source, &mut table, count, Record::at(&new, 0).unwrap());
+        let ours = insert(source, &mut table, count, given);
         same!(self, (ours, table), (answer, expected), source, before, count, new);
     }
 }

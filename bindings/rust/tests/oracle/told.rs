@@ -1,7 +1,23 @@
-//! The rules of docs/FORMAT.md for what the Rust has none: the refusals 4 to 8 and 12, what refusals carry, what stands in
-//! tables and indexes.
+//! The rules of docs/FORMAT.md for what the Rust has none: the refusals 4 to 8, 11 and 12, what refusals carry, what stands in
+//! tables and indexes, what a correction replaces, which records are a run's.
 use bilrost::{Blob, DecodeErrorKind};
 use capgauze::*;
+
+/// A record's words, and those that the Rust knows of.
+pub type Row = [u64; RECORD_WORDS];
+pub type Four = [u64; RECORD_WORDS - 1];
+
+pub fn four([tag, kind, value, length, _]: Row) -> Four {
+    [tag, kind, value, length]
+}
+
+pub fn fours(rows: &[Row]) -> Vec<Four> {
+    rows.iter().copied().map(four).collect()
+}
+
+pub fn keyed([tag, kind, value, length]: Four, key: u64) -> Row {
+    [tag, kind, value, length, key]
+}
 
 pub fn named(kind: DecodeErrorKind) -> Refusal {
     match kind {
@@ -33,7 +49,7 @@ pub fn expected_read(
     start: usize,
     end: usize,
     room: usize,
-) -> (Result<Read, RefusedRead>, Vec<[u64; 4]>) {
+) -> (Result<Read, RefusedRead>, Vec<Row>) {
     let refused = |refusal, place, count, fault| {
         (Err(RefusedRead { refusal, place, count, fault }), Vec::new())
     };
@@ -45,7 +61,16 @@ pub fn expected_read(
         Ok((records, _)) if records.len() > room => {
             refused(Refusal::NoRoom, 0, records.len(), Fault::default())
         }
-        Ok((records, place)) => (Ok(Read { place, count: records.len() }), records),
+        Ok((records, place)) => {
+            let (mut at, mut last) = (start, 0);
+            let rows = records.iter().map(|&record| {
+                let row = keyed(record, at as u64);
+                let (tag, kind, behind) = Blob::key(s, at, end, last).unwrap();
+                (at, last) = (Blob::value(s, behind, end, kind).unwrap().1, tag);
+                row
+            });
+            (Ok(Read { place, count: records.len() }), rows.collect())
+        }
     }
 }
 
@@ -107,8 +132,9 @@ fn message_fault(s: &[u8], start: usize, end: usize) -> Fault {
     Fault { place: at, bytes: 0 }
 }
 
-pub fn good(source: &[u8], [tag, kind, value, length]: [u64; 4]) -> bool {
+pub fn good(source: &[u8], [tag, kind, value, length, key]: Row) -> bool {
     tag <= u32::MAX.into()
+        && (key == NO_KEY || key < source.len() as u64)
         && match kind {
             0 => length == 0,
             1 => value.checked_add(length).is_some_and(|end| end <= source.len() as u64),
@@ -118,32 +144,39 @@ pub fn good(source: &[u8], [tag, kind, value, length]: [u64; 4]) -> bool {
         }
 }
 
-/// The records to be written, or the refusal and its index.
+/// The records to be written as a message, or the refusal and its index.
 pub fn tested(
     source: &[u8],
     table: &[u64],
     count: usize,
-) -> Result<Vec<[u64; 4]>, (Refusal, usize)> {
-    let rows: Vec<[u64; 4]> = table.chunks_exact(4).map(|row| row.try_into().unwrap()).collect();
+) -> Result<Vec<Row>, (Refusal, usize)> {
+    tested_by(source, table, count, |i, rows| match i {
+        _ if !good(source, rows[i]) => Err(Refusal::BadRecord),
+        1.. if rows[i][0] < rows[i - 1][0] => Err(Refusal::OutOfOrder),
+        _ => Ok(()),
+    })
+}
+
+fn tested_by(
+    source: &[u8],
+    table: &[u64],
+    count: usize,
+    test: impl Fn(usize, &[Row]) -> Result<(), Refusal>,
+) -> Result<Vec<Row>, (Refusal, usize)> {
+    let rows: Vec<Row> =
+        table.chunks_exact(RECORD_WORDS).map(|row| row.try_into().unwrap()).collect();
     if source.len() > LIMIT {
         return Err((Refusal::TooLong, 0));
     }
     if count > rows.len() {
         return Err((Refusal::BadRecord, rows.len()));
     }
-    for (i, &row) in rows[..count].iter().enumerate() {
-        if !good(source, row) {
-            return Err((Refusal::BadRecord, i));
-        }
-        if i > 0 && row[0] < rows[i - 1][0] {
-            return Err((Refusal::OutOfOrder, i));
-        }
-    }
+    (0..count).try_for_each(|i| test(i, &rows).map_err(|refusal| (refusal, i)))?;
     Ok(rows[..count].to_vec())
 }
 
 pub fn value(kind: u64, value: u64, length: u64) -> Value {
-    Record { tag: 0, wire_type: kind, value, length }.field().unwrap().value
+    Record { tag: 0, wire_type: kind, value, length, key: NO_KEY }.field().unwrap().value
 }
 
 // ---- Indexes ----
@@ -244,4 +277,93 @@ pub fn expected_entries(line: &[u8], message_len: usize) -> Result<Vec<Words>, R
     let entries: Vec<Words> = rows.map(entry).collect::<Option<_>>().ok_or(Refusal::BadIndex)?;
     let entries = sound(&entries.concat(), entries.len(), bound(edition), u64::MAX)?;
     (line_of(edition, &entries) == line).then_some(entries).ok_or(Refusal::BadIndex)
+}
+
+// ---- Corrections ----
+
+/// Where a tag's value lies: tag, start and length.
+pub type Place = (u32, usize, usize);
+
+/// A message's records, and where each value lies, a payload without its length.
+pub fn expected_places(s: &[u8]) -> Result<(Vec<Four>, Vec<Place>), Refusal> {
+    let (records, _) = limited(s, &[], || Blob::read(s, 0, s.len()).map_err(|(kind, _)| kind))?;
+    let (mut places, mut at, mut last) = (Vec::new(), 0, 0);
+    for _ in &records {
+        let (tag, kind, behind) = Blob::key(s, at, s.len(), last).unwrap();
+        let ([kind, start, length], next) = Blob::value(s, behind, s.len(), kind).unwrap();
+        places.push(match kind {
+            1 => (tag, start as usize, length as usize),
+            _ => (tag, behind, next - behind),
+        });
+        (at, last) = (next, tag);
+    }
+    Ok((records, places))
+}
+
+/// Who supplies a tag, and where the value lies there.
+pub fn expected_supplier(
+    original: &[Place],
+    correction: &[Place],
+    tag: u32,
+) -> Result<Option<(Supplier, Place)>, Refusal> {
+    let of_tag = |places: &[Place]| -> Vec<Place> {
+        places.iter().copied().filter(|place| place.0 == tag).collect()
+    };
+    let (supplier, places) = match of_tag(correction) {
+        none if none.is_empty() => (Supplier::Original, of_tag(original)),
+        some => (Supplier::Correction, some),
+    };
+    match places[..] {
+        [] => Ok(None),
+        [place] => Ok(Some((supplier, place))),
+        _ => Err(Refusal::Repeated),
+    }
+}
+
+/// The replacement by hand: what `OpaqueMessage` writes of the original's fields whose tags the correction has not, and of the
+/// correction's. Payloads are taken from both messages, one behind the other.
+pub fn expected_result(
+    original: (&[u8], Vec<Four>),
+    correction: (&[u8], Vec<Four>),
+) -> Result<Vec<u8>, Refusal> {
+    let replaced: std::collections::HashSet<u64> = correction.1.iter().map(|row| row[0]).collect();
+    let mut records = original.1;
+    records.retain(|row| !replaced.contains(&row[0]));
+    records.extend(correction.1.into_iter().map(|row| match row {
+        [tag, 1, start, length] => [tag, 1, start + original.0.len() as u64, length],
+        _ => row,
+    }));
+    let (forward, prepended, len) = Blob::write(&[original.0, correction.0].concat(), &records);
+    assert!(forward == prepended && forward.len() == len);
+    (len <= LIMIT).then_some(forward).ok_or(Refusal::TooLong)
+}
+
+// ---- Packed runs ----
+
+/// The records of a run, by the Rust's reader of a value; what it packs of them is the run again.
+pub fn expected_run(s: &[u8], kind: u8) -> Result<Vec<Row>, Refusal> {
+    let records = limited(s, &[], || {
+        let (mut records, mut at) = (Vec::new(), 0);
+        while at < s.len() {
+            let ([kind, value, length], next) = Blob::value(s, at, s.len(), kind)?;
+            records.push([0, kind, value, length, NO_KEY]);
+            at = next;
+        }
+        Ok(records)
+    })?;
+    assert!(Blob::packed(s, &fours(&records)) == s);
+    Ok(records)
+}
+
+/// The records to be written as a run, or the refusal and its index.
+pub fn tested_run(
+    source: &[u8],
+    table: &[u64],
+    count: usize,
+    kind: u8,
+) -> Result<Vec<Row>, (Refusal, usize)> {
+    tested_by(source, table, count, |i, rows| match rows[i] {
+        row @ [0, of, ..] if of == kind.into() && good(source, row) => Ok(()),
+        _ => Err(Refusal::BadRecord),
+    })
 }
