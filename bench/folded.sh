@@ -6,6 +6,7 @@ set -eu
 FOLDED='
 field::decode_field field::step_from field::next_field
 message::decide
+write_record::weigh_record
 sounding::next_level sounding::level_of
 '
 crates=$(dirname "$0")/../crates

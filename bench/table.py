@@ -2,12 +2,15 @@
 """table.py LOADS TIMES COUNTS: one table of what the driver and the counter wrote; either of the last two may be empty."""
 import sys
 
-KINDS = ["read", "write", "prepend", "measure", "sounding", "pick", "pick_at", "indexed", "make_index", "floor"]
+KINDS = ["read", "write", "prepend", "measure", "sounding", "graded", "pick", "pick_at", "indexed", "make_index",
+         "read_run", "write_run", "correct", "correct_end", "replace", "put_take", "pack", "floor"]
 OURS = "OURS"
 SAME = ["rust-same", "c-same:gcc", "c-same:clang"]  # the ratios that the goals are about
 PASS_ONE = "read", "OURS-pass-one"
 PICK = "indexed", "OURS-pick"  # of the same tag
 READ = "read", OURS
+SOUNDING = "sounding", OURS
+COPIES = [("floor", "OURS-copy"), ("floor", "memcpy")]
 
 
 def rows(path):
@@ -78,9 +81,14 @@ def main(loads, times, counts):
              over(numbers, lambda key: numbers.get((*PASS_ONE, key[2]))), lambda _: 2,
              lambda kind, peer: ours(kind, peer) and kind.startswith("pick"))
         for title, other, of in (("our lookup through an index over pick", PICK, "indexed"),
+                                 ("the second edition over the first, of a sounding", SOUNDING, "graded"),
                                  ("making an index over reading into a table", READ, "make_index")):
             part(f"{what}: {title}", over(numbers, lambda key: numbers.get((*other, key[2]))), lambda _: 3,
                  lambda kind, peer: ours(kind, peer) and kind == of)
+        for other in COPIES:
+            part(f"{what}: our corrections over {other[1]}",
+                 over(numbers, lambda key: numbers.get((*other, key[2]))), lambda _: 2,
+                 lambda kind, peer: ours(kind, peer) and kind.startswith("correct"))
     if best:
         part("layout: the worst layout's best over the best", over(worst, best.get), lambda _: 2)
         part("noise: median over best", over(median, best.get), lambda _: 2)

@@ -11,13 +11,23 @@ extern "C" {
 #define NOT_DONE (UINT64_MAX - 1) /* the peer has no such job for this load */
 #define SLACK 64                  /* bytes that may be touched behind a load and a buffer, for peers that look ahead */
 #define MESSAGE_LIMIT 1048575
-#define RECORD 4 /* words a record: tag, type, value or payload's start, length */
+#define RECORD 5 /* words a record: tag, type, value or payload's start, length, place of its key */
+#define NO_KEY UINT64_MAX
 #define ENTRY 3  /* words an index's entry: tag, place of its first key, number of its fields */
 #define LEVEL 5  /* words a level: pressure; temperature and depression, each 1 and the number, or 0 and all ones */
+#define GRADED 9 /* words a level of the second edition: those, and the same for the wind's speed and direction */
 #define LAUNCH_TAG 2
 #define LEVEL_TAG 3
 
-/* One load: the same fields in two formats, and the records that a table reader must make of them. */
+/* A correction over a load, and the message that it makes of it. */
+typedef struct Fix {
+    const uint8_t *bytes;
+    size_t len;
+    const uint8_t *result;
+    size_t result_len;
+} Fix;
+
+/* One load: the same fields in two formats, and the records that a table reader must make of them. Of a run: its values. */
 typedef struct Load {
     const char *name;
     const uint8_t *bytes; /* bilrost */
@@ -36,11 +46,26 @@ typedef struct Load {
     uint64_t station, launch;
     size_t levels, number; /* number: of the level that pick_at looks up */
     const uint64_t *words; /* of its levels */
+    const uint64_t *graded; /* the same by the second edition */
+    uint64_t grade, least;  /* that it has, and that is asked for */
+    Fix fix[2];            /* of its launch; of its launch and of what stands behind its levels */
+    int run;               /* 1: a packed run of values of this type, and no message */
+    uint64_t type;
+    int copy; /* 1: a working copy. `bytes` is its room, `number` the record that is replaced or taken out, `asked` the tag
+                 that is put in */
+    size_t spare, used; /* records that the table has room for beyond them; the end of the last payload */
+    const uint8_t *fresh; /* the bytes that are put in */
+    size_t fresh_len;
 } Load;
 
-/* What the jobs on a sounding answer; refused: the number alone. */
+/* What a reader of a message answers. */
+typedef struct Answer {
+    uint64_t number, place, count, failing, bytes;
+} Answer;
+
+/* What the jobs on a sounding answer; refused: the number alone. The grade is the second edition's. */
 typedef struct Sounding {
-    uint64_t refusal, station, launch, levels;
+    uint64_t refusal, station, launch, levels, grade;
 } Sounding;
 typedef struct Found {
     uint64_t refusal, count, found, type, value, len;
@@ -53,15 +78,36 @@ typedef struct Work {
     size_t table_words;
     uint64_t *inner; /* a second table, for the payloads of a deep load */
     size_t inner_words;
-    uint8_t *out; /* a buffer of out_len bytes */
+    uint8_t *out; /* a buffer of out_len bytes; for an edit the room */
     size_t out_len;
     const uint8_t *wrote; /* set by a writer: where its bytes lie */
     void *own;            /* what prepare returned */
     Sounding sounding;    /* set by a reader of soundings */
-    Found found;          /* set by a lookup, and by a maker of an index: its tags are the count */
+    Found found;          /* set by a lookup, and by a maker of an index: its tags are the count; by a reader of a run, its
+                             values are; by a writer of a run, the record that it refuses is, and the length the value; by
+                             a corrector, the length is the value; by an edit, the count or the index is the count */
 } Work;
 
-typedef enum { READ, WRITE, PREPEND, MEASURE, SOUNDING, PICK, PICK_AT, INDEXED, MAKE_INDEX, FLOOR } Kind;
+typedef enum {
+    READ,
+    WRITE,
+    PREPEND,
+    MEASURE,
+    SOUNDING,
+    READ_GRADED,
+    PICK,
+    PICK_AT,
+    INDEXED,
+    MAKE_INDEX,
+    READ_RUN,
+    WRITE_RUN,
+    CORRECT,
+    CORRECT_END,
+    REPLACE,
+    PUT_TAKE,
+    PACK,
+    FLOOR
+} Kind;
 
 typedef struct Job {
     Kind kind;
@@ -73,6 +119,7 @@ typedef struct Job {
     void *(*prepare)(const Load *, Work *);
     /* A reader: the number of fields, or REFUSED. A writer or a measurer: the length. Others: anything. */
     uint64_t (*run)(const Load *, Work *);
+    Answer (*told)(const Load *, Work *); /* every word of a reader's answer, to be compared */
 } Job;
 
 void bench_register(const Job *job);

@@ -47,15 +47,17 @@ static void put_protobuf(Bytes *b, uint64_t v) {
 typedef struct {
     Bytes bil, pb;
     uint32_t tag;
+    uint64_t key; /* the place of the last one */
     uint64_t *rec;
     size_t n, room, inner, levels;
-    uint64_t *words; /* of the levels */
+    uint64_t *words, *graded; /* of the levels, five and nine a level */
+    uint64_t grade;
     uint64_t *index;
     size_t tags;
 } Msg;
 static void record(Msg *m, uint64_t type, uint64_t value, uint64_t len) {
     if (m->n == m->room) m->rec = realloc(m->rec, 8 * RECORD * (m->room = m->room ? 2 * m->room : 64));
-    const uint64_t row[RECORD] = {m->tag, type, value, len};
+    const uint64_t row[RECORD] = {m->tag, type, value, len, m->key};
     memcpy(m->rec + RECORD * m->n++, row, sizeof row);
 }
 static void key(Msg *m, uint32_t rise, unsigned type) {
@@ -67,6 +69,7 @@ static void key(Msg *m, uint32_t rise, unsigned type) {
         memcpy(m->index + ENTRY * m->tags++, entry, sizeof entry);
     }
     m->index[ENTRY * m->tags - 1]++;
+    m->key = m->bil.n;
     put_bilrost(&m->bil, 4 * (uint64_t)rise + type);
     put_protobuf(&m->pb, 8 * (uint64_t)m->tag + PB[type]);
 }
@@ -113,27 +116,41 @@ static uint32_t rise(const Msg *m) { return m->n == 0 ? 1 : below(16) == 0; } /*
 
 #define STATION 11035
 #define LAUNCH 1763164800
-enum { PLAIN, GAPS, FOUR, FIVE };
-/* What a sensor measured, below `most`; one in `odds` is missing: all ones, or with gaps no field at all. */
-static void measured(Msg *level, uint32_t tag, uint64_t odds, uint64_t most, int gaps, uint64_t *words) {
-    uint64_t v = below(odds) == 0 ? UINT64_MAX : below(most);
+enum { PLAIN, GAPS, FOUR, FIVE, WINDY, WINDY_GAPS, WINDY_MORE };
+enum { NOT_CANONICAL, HAS_EXTENSIONS, CANONICAL };
+static void graded(Msg *m, uint64_t grade) {
+    if (grade < m->grade) m->grade = grade;
+}
+/* What a sensor measured, below `most`; one in `odds` is missing (0: none): all ones, or with gaps no field at all. */
+static void measured(Msg *m, Msg *level, uint32_t tag, uint64_t odds, uint64_t most, int gaps, uint64_t *words) {
+    uint64_t v = odds && below(odds) == 0 ? UINT64_MAX : below(most);
     if (!gaps || v != UINT64_MAX) varint(level, tag - level->tag, v);
+    if (!gaps && v == UINT64_MAX) graded(m, NOT_CANONICAL);
     words[0] = v != UINT64_MAX, words[1] = v;
 }
+/* A value that was not sent, or one that always is. */
+static void wind(Msg *m, Msg *level, uint32_t tag, uint64_t most, int shape, uint64_t *words) {
+    words[0] = 0, words[1] = UINT64_MAX;
+    int gaps = shape == WINDY_GAPS;
+    if (shape >= FIVE || (shape == FOUR && tag == 4)) measured(m, level, tag, gaps ? 4 : 0, most, gaps, words);
+}
 static Msg sounding_of(size_t levels, int shape) {
-    Msg m = {.levels = levels, .words = malloc(8 * LEVEL * levels)};
-    uint64_t *words = m.words;
-    int gaps = shape == GAPS;
+    Msg m = {.levels = levels, .words = malloc(8 * LEVEL * levels), .graded = malloc(8 * GRADED * levels), .grade = CANONICAL};
+    uint64_t *words = m.graded;
+    int gaps = shape == GAPS || shape >= WINDY;
+    uint64_t odds = shape == WINDY || shape == WINDY_MORE ? 0 : gaps ? 6 : 20;
     varint(&m, 1, STATION);
     varint(&m, 1, LAUNCH);
-    for (size_t i = 0; i < levels; i++, words += LEVEL) {
+    for (size_t i = 0; i < levels; i++, words += GRADED) {
         Msg level = {0};
         if (i % SHORT_LEVELS == 0) state = first;
         varint(&level, 1, words[0] = 101325 - 830 * (i % 120) - below(100));
-        measured(&level, 2, gaps ? 6 : 20, 1200, gaps, words + 1);
-        measured(&level, 3, gaps ? 4 : 8, 600, gaps, words + 3);
-        if (shape >= FOUR) varint(&level, 1, below(2000));
-        if (shape == FIVE) varint(&level, 1, below(360));
+        measured(&m, &level, 2, odds, 1200, gaps, words + 1);
+        measured(&m, &level, 3, odds ? gaps ? 4 : 8 : 0, 600, gaps, words + 3);
+        wind(&m, &level, 4, 2000, shape, words + 5);
+        wind(&m, &level, 5, 360, shape, words + 7);
+        if (shape == WINDY_MORE) varint(&level, 4, below(100)), random_payload(&level, 1, 6), graded(&m, HAS_EXTENSIONS);
+        memcpy(m.words + LEVEL * i, words, 8 * LEVEL);
         m.inner += level.n;
         payload(&m, i == 0, &level.bil, &level.pb);
     }
@@ -142,6 +159,13 @@ static Msg sounding_of(size_t levels, int shape) {
 static Msg sounding(size_t levels) { return sounding_of(levels, PLAIN); }
 static Msg with_gaps(size_t levels) { return sounding_of(levels, GAPS); }
 static Msg of_five_tags(size_t levels) { return sounding_of(levels, FIVE); }
+static Msg windy(size_t levels) { return sounding_of(levels, WINDY); }
+static Msg windy_gaps(size_t levels) { return sounding_of(levels, WINDY_GAPS); }
+static Msg windy_more(size_t levels) {
+    Msg m = sounding_of(levels, WINDY_MORE);
+    varint(&m, 6, 300);
+    return m;
+}
 /* Levels, and behind them the one field of the highest tag. */
 static Msg behind_levels(Msg m) {
     varint(&m, 9, 300);
@@ -206,6 +230,42 @@ static Msg tiny(size_t last) {
     return m;
 }
 
+/* ---- Corrections: a launch; and with it two fields behind the levels ---- */
+
+static void copy_field(Msg *to, const Msg *from, const uint64_t *row) {
+    uint32_t up = row[0] - to->tag;
+    Bytes part = {from->bil.p + row[2], row[3], 0};
+    if (row[1] == 0) varint(to, up, row[2]);
+    else if (row[1] == 1) payload(to, up, &part, &part);
+    else fixed(to, up, row[3], row[2]);
+}
+static int has_tag(const Msg *m, uint64_t tag) {
+    for (size_t i = 0; i < m->n; i++)
+        if (m->rec[RECORD * i] == tag) return 1;
+    return 0;
+}
+/* The fields of both in the order of their tags, but for the original's of a tag that the correction has. */
+static Fix fix_of(const Msg *original, const Msg *correction) {
+    Msg m = {0};
+    const uint64_t *row = original->rec, *stop = row + RECORD * original->n;
+    for (size_t i = 0; i <= correction->n; i++) {
+        const uint64_t *own = i < correction->n ? correction->rec + RECORD * i : 0;
+        for (; row < stop && (!own || row[0] <= own[0]); row += RECORD)
+            if (!has_tag(correction, row[0])) copy_field(&m, original, row);
+        if (own) copy_field(&m, correction, own);
+    }
+    return (Fix){correction->bil.p, correction->bil.n, m.bil.p, m.bil.n};
+}
+static void fixes(Load *l, const Msg *m) {
+    Msg launch = {0}, both = {0};
+    varint(&launch, LAUNCH_TAG, LAUNCH + 300);
+    varint(&both, LAUNCH_TAG, LAUNCH + 300);
+    random_payload(&both, 7, 24);
+    fixed(&both, 1, 4, 55);
+    l->fix[0] = fix_of(m, &launch);
+    l->fix[1] = fix_of(m, &both);
+}
+
 /* `size`: levels, payloads, or bytes at most. */
 static Load load(const char *name, uint64_t seed, Msg make(size_t), size_t size, int good, int deep) {
     state = first = seed;
@@ -213,10 +273,81 @@ static Load load(const char *name, uint64_t seed, Msg make(size_t), size_t size,
     if (m.bil.n > MESSAGE_LIMIT) abort();
     Load l = {.name = name, .good = good, .deep = deep, .fields = m.n, .all_fields = m.n + (deep ? m.inner : 0),
               .sounding = m.levels > 0, .station = STATION, .launch = LAUNCH, .levels = m.levels, .number = 60,
-              .words = m.words, .records = m.rec, .index = m.index, .tags = m.tags, .asked = m.tag,
-              .len = m.bil.n - !good, .pb_len = m.pb.n - !good};
+              .words = m.words, .graded = m.graded, .grade = m.grade, .least = m.grade, .records = m.rec,
+              .index = m.index, .tags = m.tags, .asked = m.tag, .len = m.bil.n - !good, .pb_len = m.pb.n - !good};
     l.bytes = memcpy(calloc(1, l.len + SLACK), m.bil.p, l.len);
     l.pb = memcpy(calloc(1, l.pb_len + SLACK), m.pb.p, l.pb_len);
+    if (l.sounding) fixes(&l, &m);
+    return l;
+}
+
+/* ---- Packed runs: a column of winds, one in 40 missing (all ones); fixed values ---- */
+
+static void value(Msg *m, uint64_t type, uint64_t v) {
+    if (type == 0) put_bilrost(&m->bil, v), record(m, 0, v, 0);
+    if (type == 1) {
+        size_t n = v % 20;
+        put_bilrost(&m->bil, n);
+        record(m, 1, m->bil.n, n);
+        while (n-- > 0) put(&m->bil, v >> n);
+    }
+    if (type < 2) return;
+    size_t n = type == 2 ? 4 : 8;
+    if (n == 4) v &= 0xFFFFFFFFu;
+    record(m, type, v, n);
+    for (size_t i = 0; i < n; i++) put(&m->bil, v >> 8 * i);
+}
+static Load run(const char *name, uint64_t type, size_t count) {
+    state = 10 + type;
+    Msg m = {.key = NO_KEY};
+    while (m.n < count) value(&m, type, type ? next() : below(40) ? below(6000) : UINT64_MAX);
+    if (m.bil.n > MESSAGE_LIMIT) abort();
+    Load l = {.name = name, .good = 1, .run = 1, .type = type, .fields = m.n, .all_fields = m.n, .records = m.rec,
+              .len = m.bil.n};
+    l.bytes = memcpy(calloc(1, l.len + SLACK), m.bil.p, l.len);
+    return l;
+}
+
+/* ---- Working copies: payloads of 8 to 32 bytes, a tag each, behind some free bytes ---- */
+
+static uint64_t *places; /* of a copy whose payloads are put in order */
+static int by_place(const void *a, const void *b) {
+    uint64_t x = places[*(const size_t *)a], y = places[*(const size_t *)b];
+    return (x > y) - (x < y);
+}
+/* All but one, packed at the front in order of place. */
+static uint64_t packed(uint64_t *at, const uint64_t *len, size_t count, size_t but) {
+    size_t *order = malloc(8 * count);
+    uint64_t to = 0;
+    for (size_t i = 0; i < count; i++) order[i] = i;
+    places = at;
+    qsort(order, count, sizeof *order, by_place);
+    for (size_t i = 0; i < count; i++)
+        if (order[i] != but) at[order[i]] = to, to += len[order[i]];
+    free(order);
+    return to;
+}
+/* A copy after some replacements by as many bytes, each behind the last payload or, where the room ends, behind all packed. */
+static Load copy(const char *name, size_t count, size_t replaced) {
+    uint64_t *at = malloc(8 * count), *len = malloc(8 * count), end = SLACK, room;
+    state = 20 + count;
+    for (size_t i = 0; i < count; i++) at[i] = end, end += len[i] = 8 + below(25);
+    room = end + end / 4;
+    for (size_t n = 0; n < replaced; n++) {
+        size_t i = below(count);
+        if (room - end < len[i]) end = packed(at, len, count, i);
+        at[i] = end, end += len[i];
+    }
+    Load l = {.name = name, .good = 1, .copy = 1, .fields = count, .all_fields = count, .spare = 1, .used = end,
+              .len = end + SLACK, .number = count / 2, .asked = count / 2, .fresh_len = 24};
+    uint64_t *row = malloc(8 * RECORD * count);
+    l.records = row;
+    for (size_t i = 0; i < count; i++, row += RECORD)
+        row[0] = i + 1, row[1] = 1, row[2] = at[i], row[3] = len[i], row[4] = NO_KEY;
+    Bytes b = {0};
+    while (b.n < l.len + l.fresh_len) put(&b, next());
+    l.bytes = b.p, l.fresh = b.p + l.len;
+    free(at), free(len);
     return l;
 }
 
@@ -238,9 +369,24 @@ size_t make_loads(Load *out) {
         load("SL+", 1, sounding, 80000, 1, 0),
         load("SG", 8, with_gaps, 120, 1, 0),
         load("S5", 9, of_five_tags, 120, 1, 0),
+        load("W", 11, windy, 120, 1, 0),
+        load("WG", 12, windy_gaps, 120, 1, 0),
+        load("WU", 13, windy_more, 120, 1, 0),
+        load("WL", 11, windy, 4000, 1, 0),
         load("I2", 1, behind_of_four, 2000, 1, 0),
         load("I4", 1, behind_of_four, 4000, 1, 0),
         load("I8", 1, behind_of_one, 8000, 1, 0),
+        run("RV", 0, 1000),
+        run("RV+", 0, 100000),
+        run("R4", 2, 1000),
+        run("R4+", 2, 100000),
+        run("R8", 3, 1000),
+        run("R8+", 3, 100000),
+        copy("E", 120, 0),
+        copy("EL", 4000, 0),
+        copy("EF", 4000, 10),
+        copy("EO", 120, 1000),
+        copy("EOL", 4000, 20000),
     };
     memcpy(out, all, sizeof all);
     return sizeof all / sizeof *all;
@@ -250,7 +396,7 @@ size_t make_loads(Load *out) {
 
 /* A field that is mostly as it should be: else left out, sent twice, of another type, at an edge, or all ones. */
 static void doubtful(Msg *m, uint32_t tag, uint64_t most) {
-    static const uint64_t EDGE[] = {0, 600, 601, 2000, 2001, 2002, 2999, 3000, 3001, 99999, 100000, 110000, 110001};
+    static const uint64_t EDGE[] = {0, 359, 360, 600, 601, 2000, 2001, 2002, 2999, 3000, 3001, 99999, 100000, 110000, 110001};
     uint32_t up = tag - m->tag;
     uint64_t v = 1 + below(most);
     switch (below(40)) {
@@ -291,6 +437,15 @@ static void doubtful_index(Load *l, Msg *m) {
     l->tags = m->tags - (m->tags && below(16) == 0);
     l->asked = m->tags && below(8) ? m->index[ENTRY * below(m->tags)] : below(6);
 }
+/* A correction of a few fields, often something wrong in it; the room for the result is of the length of both, or less. */
+static void doubtful_fix(Load *l) {
+    Msg m = {0};
+    for (uint32_t tag = 0; tag < 6; tag++)
+        for (uint64_t n = below(3) ? 0 : 1 + below(2); n > 0; n--) doubtful(&m, tag, 600);
+    unknown(&m);
+    if (below(6) == 0) damage(&m.bil);
+    l->fix[0] = l->fix[1] = (Fix){m.bil.p ? m.bil.p : (uint8_t *)"", m.bil.n, 0, l->len + m.bil.n - (m.bil.n && below(4) == 0)};
+}
 /* A sounding of a few levels, most often something wrong in it, and room for `levels`. The first is longer than a message
  * may be. */
 Load broken_sounding(uint64_t seed) {
@@ -303,6 +458,7 @@ Load broken_sounding(uint64_t seed) {
         doubtful(&level, 1, 110000);
         doubtful(&level, 2, 2000);
         doubtful(&level, 3, 600);
+        if (below(2)) doubtful(&level, 4, 2000), doubtful(&level, 5, 359);
         unknown(&level);
         if (below(4) == 0) damage(&level.bil);
         if (below(40) == 0) doubtful(&m, LEVEL_TAG, 600);
@@ -311,8 +467,61 @@ Load broken_sounding(uint64_t seed) {
     unknown(&m);
     if (seed == 0) random_payload(&m, 9, MESSAGE_LIMIT);
     if (below(2)) damage(&m.bil);
-    Load l = {.name = "a broken sounding", .len = m.bil.n, .levels = below(8), .number = below(4)};
+    Load l = {.name = "a broken sounding", .len = m.bil.n, .levels = below(8), .number = below(4), .least = seed ? below(4) : 0};
     l.bytes = memcpy(calloc(1, l.len + SLACK), m.bil.p, l.len);
     doubtful_index(&l, &m);
+    l.fields = m.n - (m.n && below(8) == 0);
+    doubtful_fix(&l);
+    return l;
+}
+
+/* A run of a few values of any type, most often something wrong in it; and records of a run, of which some are not. */
+Load broken_run(uint64_t seed) {
+    state = seed;
+    Msg m = {.key = NO_KEY};
+    uint64_t type = below(4);
+    for (uint64_t n = below(8); n > 0; n--) value(&m, type, type ? next() : below(8) ? mixed() : UINT64_MAX);
+    if (seed == 0) random_payload(&m, 9, MESSAGE_LIMIT);
+    Load l = {.name = "a broken run", .run = 1, .type = type, .fields = m.n, .all_fields = m.n, .records = m.rec};
+    if (m.n && below(2)) {
+        uint64_t *word = m.rec + below(RECORD * m.n);
+        *word = below(3) ? *word + 1 - below(3) : next() >> below(64);
+    }
+    if (type == 1 && below(40) == 0)
+        for (size_t i = 0; i < m.n; i++) m.rec[RECORD * i + 2] = 0, m.rec[RECORD * i + 3] = m.bil.n;
+    if (below(2)) damage(&m.bil);
+    l.len = m.bil.n;
+    l.bytes = memcpy(calloc(1, l.len + SLACK), m.bil.p ? m.bil.p : (uint8_t *)"", l.len);
+    return l;
+}
+
+/* A working copy of a few records, most often payloads of some bytes and apart, in any order of place; often one word is
+ * wrong. */
+Load broken_copy(uint64_t seed) {
+    state = seed;
+    Msg m = {.key = NO_KEY};
+    uint64_t at[8], end = below(3), n = below(8);
+    Load l = {.name = "a broken working copy", .copy = 1, .spare = below(4) > 0, .fresh_len = below(12), .asked = below(12)};
+    for (uint64_t i = 0; i < n; i++) at[i] = i;
+    for (uint64_t i = n; below(2) && i > 1; i--) {
+        uint64_t j = below(i), other = at[i - 1];
+        at[i - 1] = at[j], at[j] = other;
+    }
+    for (uint64_t i = 0; i < n; i++) m.tag += below(3), record(&m, 1, 0, 0);
+    for (uint64_t i = 0; i < n; i++) {
+        uint64_t *row = m.rec + RECORD * at[i];
+        if (below(8) == 0) row[1] = 0, row[2] = mixed();
+        else row[2] = end, row[3] = below(6), end += row[3] + (below(3) ? 0 : below(4));
+    }
+    if (n && below(3) == 0) {
+        uint64_t *word = m.rec + below(RECORD * n);
+        *word = below(3) ? *word + 1 - below(3) : next() >> below(64);
+    }
+    l.records = m.rec, l.fields = n, l.number = below(n + 2);
+    l.len = seed ? end + below(10) : MESSAGE_LIMIT + 1;
+    l.used = !seed ? l.len : below(4) ? (end < l.len ? end : l.len) : below(l.len + 1);
+    Bytes b = {0};
+    while (b.n < l.len + l.fresh_len + 1) put(&b, next());
+    l.bytes = b.p, l.fresh = b.p + l.len;
     return l;
 }

@@ -12,7 +12,7 @@ typedef struct {
 uint64_t rust_owned_read(const uint8_t *, size_t, _Bool deep);
 uint64_t rust_borrowed_read(const uint8_t *, size_t, _Bool deep);
 uint64_t rust_walk(const uint8_t *, size_t);
-uint64_t rust_same_read(const uint8_t *, size_t, uint64_t *, size_t);
+void rust_same_read(const uint8_t *, size_t, uint64_t *, size_t, Answer *);
 uint64_t rust_once_read(const uint8_t *, size_t, uint64_t *, size_t);
 void *rust_held(const uint8_t *, size_t);
 uint64_t rust_opaque_encode(void *held, const uint8_t **wrote);
@@ -31,6 +31,9 @@ void rust_same_pick_at(const uint8_t *, size_t, uint32_t tag, uint64_t number, F
 void rust_borrowed_pick_at(const uint8_t *, size_t, uint32_t tag, uint64_t number, Found *);
 void rust_same_sounding(const uint8_t *, size_t, uint64_t *, size_t, Sounding *);
 void rust_borrowed_sounding(const uint8_t *, size_t, uint64_t *, size_t, Sounding *);
+void rust_same_read_run(const uint8_t *, size_t, uint64_t type, uint64_t *, size_t, Found *);
+void rust_same_write_run(const Lent *, uint64_t type, size_t count, uint8_t *, size_t, Found *);
+void rust_same_correct(const uint8_t *, size_t, const uint8_t *, size_t, uint8_t *, size_t, Found *);
 
 /* A job, named by its own function. */
 #define JOB(id) static uint64_t id(const Load *l, Work *w)
@@ -39,12 +42,22 @@ void rust_borrowed_sounding(const uint8_t *, size_t, uint64_t *, size_t, Soundin
 JOB(owned) { NONE; return rust_owned_read(l->bytes, l->len, l->deep); }
 JOB(borrowed) { NONE; return rust_borrowed_read(l->bytes, l->len, l->deep); }
 JOB(walk) { NONE; return l->deep ? NOT_DONE : rust_walk(l->bytes, l->len); }
-JOB(same) { return read_deep(rust_same_read, l, w); }
+static uint64_t same_table(const uint8_t *s, size_t n, uint64_t *table, size_t words) {
+    Answer a;
+    rust_same_read(s, n, table, words, &a);
+    return a.number ? REFUSED : a.count;
+}
+static Answer told(const Load *l, Work *w) {
+    Answer a;
+    rust_same_read(l->bytes, l->len, w->table, w->table_words, &a);
+    return a;
+}
+JOB(same) { return read_deep(same_table, l, w); }
 JOB(once) { return read_deep(rust_once_read, l, w); }
 REGISTER(1, .kind = READ, .name = "rust-owned", .run = owned)
 REGISTER(2, .kind = READ, .name = "rust-borrowed", .run = borrowed)
 REGISTER(3, .kind = READ, .name = "rust-walk", .run = walk)
-REGISTER(4, .kind = READ, .name = "rust-same", .fills = 1, .keeps = 1, .run = same)
+REGISTER(4, .kind = READ, .name = "rust-same", .fills = 1, .keeps = 1, .run = same, .told = told)
 REGISTER(5, .kind = READ, .name = "rust-once", .fills = 1, .run = once)
 
 static void *held(const Load *l, Work *w) { NONE; return rust_held(l->bytes, l->len); }
@@ -88,12 +101,34 @@ REGISTER(21, .kind = PICK, .name = "rust-borrowed", .keeps = 1, .run = borrowed_
 REGISTER(22, .kind = PICK_AT, .name = "rust-same", .keeps = 1, .run = same_pick_at)
 REGISTER(23, .kind = PICK_AT, .name = "rust-borrowed", .keeps = 1, .run = borrowed_pick_at)
 
+JOB(same_read_run) {
+    rust_same_read_run(l->bytes, l->len, l->type, w->table, w->table_words, &w->found);
+    return w->found.refusal ? REFUSED : w->found.count;
+}
+JOB(same_write_run) {
+    Lent from = lent(l, w);
+    rust_same_write_run(&from, l->type, l->fields, w->out, w->out_len, &w->found);
+    w->wrote = w->out;
+    return w->found.refusal ? REFUSED : w->found.value;
+}
+static inline uint64_t corrected(const Load *l, Work *w, Fix fix) {
+    rust_same_correct(l->bytes, l->len, fix.bytes, fix.len, w->out, w->out_len, &w->found);
+    w->wrote = w->out;
+    return w->found.refusal ? REFUSED : w->found.value;
+}
+JOB(same_correct) { return corrected(l, w, l->fix[0]); }
+JOB(same_correct_end) { return corrected(l, w, l->fix[1]); }
+REGISTER(24, .kind = READ_RUN, .name = "rust-same", .fills = 1, .keeps = 1, .run = same_read_run)
+REGISTER(25, .kind = WRITE_RUN, .name = "rust-same", .keeps = 1, .run = same_write_run)
+REGISTER(26, .kind = CORRECT, .name = "rust-same", .keeps = 1, .run = same_correct)
+REGISTER(27, .kind = CORRECT_END, .name = "rust-same", .keeps = 1, .run = same_correct_end)
+
 /* Floors: a copy of the bytes; the stores of a table reader alone. */
 JOB(copy) { memcpy(w->out, l->bytes, l->len); return l->len; }
 JOB(stores) {
     uint64_t *row = w->table;
     for (size_t i = 0; i < l->fields; i++, row += RECORD) {
-        row[0] = i, row[1] = 0, row[2] = i, row[3] = 0;
+        row[0] = i, row[1] = 0, row[2] = i, row[3] = 0, row[4] = i;
         __asm__ volatile("" ::: "memory");
     }
     return l->fields;
