@@ -1,4 +1,4 @@
--- The words that C gets of a graded sounding: each is what the answer tells (rule G8).
+-- The words that C gets of a graded sounding: each is what the answer tells (rule B8).
 use Prim.Native.Nat.{ℕ, zero, suc, _≤_}
 use mathlib.Core.Path.{_≡_, refl}
 use mathlib.Core.List.{List}
@@ -34,7 +34,7 @@ grade-above (suc (suc (suc n))) h = refl
 abbrev pub gradedLent : Outcome → Lent GradedHeading
 gradedLent o = record { told = gradedTold (o .answer); lent = o .levels }
 
--- Rule G8: such a number is 6 before all else
+-- Rule B8: such a number is 6 before all else
 abbrev pub badLeast : GradedHeading
 badLeast = record { number = numberOf BadRecord; station = 0; launch = 0; levels = 0; grade = 0 }
 

@@ -33,7 +33,7 @@ pub fn grade_of(number: u64) -> Least
     }
 }
 
-// Rule G1: the number of a grade.
+// Rule B1: the number of a grade.
 pub fn grade_number(g: Grade) -> u64
     ensures { λ r. ⌜ r ≡ gradeNumber g ⌝ }
 {

@@ -1,6 +1,6 @@
 -- All ones alone, in the second edition: where the least grade that is taken is NotCanonical, the number is the one that the same sounding gets with
 -- 0 in the place of all ones in every field that is no station and no pressure. With a higher one an all-ones value written out is NotCanonical (14),
--- by rule G3.
+-- by rule B3.
 use Prim.Native.Nat.{ℕ}
 use mathlib.Core.Path.{_≡_, refl, ap, _∙_, sym}
 use mathlib.Core.Bool.{Bool, true, false}

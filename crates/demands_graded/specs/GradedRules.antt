@@ -1,4 +1,4 @@
--- Which refusals reading a graded sounding has, in their order (rule G6): those of the first edition, with 11, 9 and 10 of a level's tags 4 and 5
+-- Which refusals reading a graded sounding has, in their order (rule B6): those of the first edition, with 11, 9 and 10 of a level's tags 4 and 5
 -- behind its tag 3; 5; then 14 or 15 of the first field below the least grade.
 use Prim.Native.Nat.{ℕ, zero, suc}
 use mathlib.Core.Bool.{true}
@@ -56,7 +56,7 @@ gradedRules s t least fs = itemRules Station fs ++ (itemRules Launch fs ++ (wind
 abbrev pub readGradedOrder : List ℕ → List ℕ → Grade → List Rule
 readGradedOrder s t least = orderR s 0 (length s) (messageRules s 0 (length s) ++ gradedRules s t least (fieldsIn s 0 (length s)))
 
--- ---- for C: the number of the least grade first (rule G8)
+-- ---- for C: the number of the least grade first (rule B8)
 
 abbrev gradeAt : ℕ → Grade
 gradeAt zero = NotCanonical

@@ -1,4 +1,4 @@
--- THE NUMBER THAT READING A GRADED SOUNDING TELLS is that of the first refusal in its order (rule G6) whose condition holds, and 0 exactly if none
+-- THE NUMBER THAT READING A GRADED SOUNDING TELLS is that of the first refusal in its order (rule B6) whose condition holds, and 0 exactly if none
 -- does; and what a read leaves of the table: of every outcome that the contract allows.
 use Prim.Native.Nat.{ℕ, zero, suc, _*_}
 use mathlib.Core.Path.{_≡_, refl, ap, _∙_, sym, subst}
@@ -212,7 +212,7 @@ unfolding gradedAs
 least-in s t (Is g) = graded-in s t g
 least-in s t Unknown = kept _ _ _ t
 
--- ---- the same of the export: a number that is no grade is 6 before all else (rule G8)
+-- ---- the same of the export: a number that is no grade is 6 before all else (rule B8)
 
 pub c-read-graded-number : Numbered 2 c-read-graded.ps c-read-graded.r c-read-graded-reads.Post (λ κs x. x .number)
     (λ κs a. leastOrder (a .1 .1 .0) (readGradedOrder (now (a .0)) (now (a .1 .0))))
