@@ -175,6 +175,7 @@ mod corrections;
 mod edits;
 mod indexes;
 mod runs;
+mod soundings;
 
 impl Against {
     fn new(seed: u64) -> Against {
@@ -188,6 +189,7 @@ impl Against {
             self.packed();
             self.copies();
             self.relayed();
+            self.soundings();
             if round == 0 {
                 self.long_run();
             }
