@@ -19,12 +19,13 @@ extern "C" {
 #define LAUNCH_TAG 2
 #define LEVEL_TAG 3
 
-/* A correction over a load, and the message that it makes of it. */
+/* A correction over a load, the message that it makes of it, and how many bytes are lent for that. */
 typedef struct Fix {
     const uint8_t *bytes;
     size_t len;
     const uint8_t *result;
     size_t result_len;
+    size_t room;
 } Fix;
 
 /* One load: the same fields in two formats, and the records that a table reader must make of them. Of a run: its values. */

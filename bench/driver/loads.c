@@ -254,7 +254,7 @@ static Fix fix_of(const Msg *original, const Msg *correction) {
             if (!has_tag(correction, row[0])) copy_field(&m, original, row);
         if (own) copy_field(&m, correction, own);
     }
-    return (Fix){correction->bil.p, correction->bil.n, m.bil.p, m.bil.n};
+    return (Fix){correction->bil.p, correction->bil.n, m.bil.p, m.bil.n, original->bil.n + correction->bil.n};
 }
 static void fixes(Load *l, const Msg *m) {
     Msg launch = {0}, both = {0};
@@ -444,7 +444,7 @@ static void doubtful_fix(Load *l) {
         for (uint64_t n = below(3) ? 0 : 1 + below(2); n > 0; n--) doubtful(&m, tag, 600);
     unknown(&m);
     if (below(6) == 0) damage(&m.bil);
-    l->fix[0] = l->fix[1] = (Fix){m.bil.p ? m.bil.p : (uint8_t *)"", m.bil.n, 0, l->len + m.bil.n - (m.bil.n && below(4) == 0)};
+    l->fix[0] = l->fix[1] = (Fix){m.bil.p ? m.bil.p : (uint8_t *)"", m.bil.n, 0, 0, l->len + m.bil.n - (m.bil.n && below(4) == 0)};
 }
 /* A sounding of a few levels, most often something wrong in it, and room for `levels`. The first is longer than a message
  * may be. */

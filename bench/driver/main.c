@@ -53,7 +53,7 @@ static void prepare(const Job *j, const Load *l, Work *w) {
     if (j->kind == INDEXED) memcpy(w->table, l->index, 8 * w->table_words);
     w->inner_words = RECORD * 64;
     w->inner = malloc(8 * w->inner_words);
-    w->out_len = corrects(j) ? fix_for(j, l).result_len : j->pb ? l->pb_len : l->len;
+    w->out_len = corrects(j) ? fix_for(j, l).room : j->pb ? l->pb_len : l->len;
     w->out = memset(malloc(w->out_len + SLACK), 0xA5, w->out_len + SLACK);
     w->own = j->prepare ? j->prepare(l, w) : 0;
 }
@@ -86,9 +86,11 @@ static void check_read(const Job *j, const Load *l, const Work *w, uint64_t got)
     check_kept(j, l, w, l->good || !j->keeps ? w->table_words : 0);
 }
 static void check_written(const Job *j, const Load *l, const Work *w, uint64_t got) {
-    if (got != w->out_len) fail(j, l, "wrong length", got);
+    if (got != (corrects(j) ? fix_for(j, l).result_len : w->out_len)) fail(j, l, "wrong length", got);
     const uint8_t *want = corrects(j) ? fix_for(j, l).result : j->pb ? l->pb : l->bytes;
     if (j->kind != MEASURE && memcmp(w->wrote, want, got)) fail(j, l, "wrong bytes", got);
+    for (size_t i = got; j->keeps && j->kind != MEASURE && w->wrote == w->out && i < w->out_len + SLACK; i++)
+        if (w->out[i] != 0xA5) fail(j, l, "a byte changed that must stay", i);
     for (size_t i = 0; j->keeps && i < SLACK; i++)
         if (w->out[w->out_len + i] != 0xA5) fail(j, l, "a byte changed that must stay", i);
 }

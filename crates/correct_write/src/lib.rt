@@ -2,7 +2,8 @@
 // behind a key of their own message, are copied as they stand; only where the two meet is a key written anew.
 ghost use mathlib.Core.Path.{_≡_};
 ghost use Prim.Native.Nat.{_+_, _≤_, _<_};
-ghost use lib.Dec.{ltb};
+ghost use mathlib.Core.Bool.{false};
+ghost use lib.Dec.{ltb, leb};
 ghost use lib.ListN.{length};
 ghost use Rattle.wire.specs.Choose.{choose};
 ghost use Rattle.wire.specs.Limits.{messageLimit};
@@ -213,6 +214,16 @@ fn put_all(original: &[u8], correction: &[u8], buf: &mut [u8]) -> usize
     put_moved(buf, at, original, p, last, original.len(), tag)
 }
 
+// Whether so many bytes are within the limit and have room. Both lengths together are always enough, so that where they have room nothing is measured.
+fn is_ample(n: usize, room: usize) -> bool
+    ensures { λ r. ⌜ r ≡ choose (leb n messageLimit) (leb n room) false ⌝ }
+{
+    if n <= wire::MESSAGE_LIMIT {
+        return n <= room;
+    }
+    false
+}
+
 // The original under a correction, as one message at the buffer's front. Both are read whole first, the original before the correction; a refusal leaves
 // the buffer as it was.
 pub fn write_corrected(original: &[u8], correction: &[u8], buf: &mut [u8]) -> Put
@@ -225,6 +236,9 @@ pub fn write_corrected(original: &[u8], correction: &[u8], buf: &mut [u8]) -> Pu
     }
     if let Gated::Shut(why) = accept(correction) {
         return Put::Refused(why);
+    }
+    if is_ample(original.len() + correction.len(), buf.len()) {
+        return Put::Done(put_all(original, correction, buf));
     }
     let n = measure(original, correction);
     if wire::MESSAGE_LIMIT < n {
