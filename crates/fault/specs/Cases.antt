@@ -4,7 +4,7 @@ use mathlib.Core.Path.{_≡_, refl}
 use mathlib.Core.List.{List, [], _∷_}
 use lib.ListN.{replicate}
 use Rattle.wire.specs.Faults.{looks}
-use Rattle.wire.specs.Reading.{varintAt, fieldAt, stepAt, Refused, readMessage}
+use Rattle.wire.specs.Reading.{varintAt, fieldAt, stepAt, Message, Refused, readMessage}
 use Rattle.wire.specs.declared.Fault.{Fault}
 use Rattle.wire.specs.declared.Refusal.{Refusal}
 use Rattle.wire.specs.declared.Refusal.the-variants.{Truncated, InvalidVarint, TagOverflowed}
@@ -24,13 +24,25 @@ pub record Case : Type 0 where
 abbrev case : List ℕ → ℕ → ℕ → Refusal → ℕ → ℕ → ℕ → Case
 case s a e r p f n = record { bytes = s; start = a; end = e; why = r; place = p; fault = record { place = f; bytes = n } }
 
-abbrev pub Right : List Case → Type 0
-Right [] = Unit {0}
-Right (c ∷ cs) =
-    (readMessage (c .bytes) (c .start) (c .end) ≡ Refused (c .why) (c .place))
-    × (messageFault (c .bytes) (c .start) (c .end) ≡ c .fault)
-    × (faultAt (c .bytes) (c .end) (c .why) (c .place) ≡ c .fault)
-    × Right cs
+-- what is read, and its fault: carried up, and by the short way
+pub record Outcome : Type 0 where
+  pub read : Message
+  pub carried : Fault
+  pub short : Fault
+
+abbrev pub computed : List Case → List Outcome
+computed [] = []
+computed (c ∷ cs) =
+    record {
+      read = readMessage (c .bytes) (c .start) (c .end);
+      carried = messageFault (c .bytes) (c .start) (c .end);
+      short = faultAt (c .bytes) (c .end) (c .why) (c .place);
+    }
+    ∷ computed cs
+
+abbrev pub expected : List Case → List Outcome
+expected [] = []
+expected (c ∷ cs) = record { read = Refused (c .why) (c .place); carried = c .fault; short = c .fault } ∷ expected cs
 
 abbrev pub cases : List Case
 cases =
@@ -62,84 +74,9 @@ cases =
     ∷ case (0x03 ∷ replicate 7 0xff) 0 8 Truncated 0 1 0
     ∷ []
 
-pub right : Right cases
+pub right : computed cases ≡ expected cases
 unfolding readMessage fieldAt varintAt looks keyFault valueFault fieldFault messageFault upToNine keyShort valueShort faultAt
-right = (
-  refl,
-  refl,
-  refl,
-  (
-    refl,
-    refl,
-    refl,
-    (
-      refl,
-      refl,
-      refl,
-      (
-        refl,
-        refl,
-        refl,
-        (
-          refl,
-          refl,
-          refl,
-          (
-            refl,
-            refl,
-            refl,
-            (
-              refl,
-              refl,
-              refl,
-              (
-                refl,
-                refl,
-                refl,
-                (
-                  refl,
-                  refl,
-                  refl,
-                  (
-                    refl,
-                    refl,
-                    refl,
-                    (
-                      refl,
-                      refl,
-                      refl,
-                      (
-                        refl,
-                        refl,
-                        refl,
-                        (
-                          refl,
-                          refl,
-                          refl,
-                          (
-                            refl,
-                            refl,
-                            refl,
-                            (
-                              refl,
-                              refl,
-                              refl,
-                              (refl, refl, refl, (refl, refl, refl, (refl, refl, refl, (refl, refl, refl, (refl, refl, refl, tt))))),
-                            ),
-                          ),
-                        ),
-                      ),
-                    ),
-                  ),
-                ),
-              ),
-            ),
-          ),
-        ),
-      ),
-    ),
-  ),
-)
+right = refl
 
 -- a step past its end, behind tag 7
 pub step-past-end : (stepAt (0x00 ∷ 0x00 ∷ []) 1 2 7 ≡ stepped.Refused Truncated) × (stepFault (0x00 ∷ 0x00 ∷ []) 1 2 7 ≡ record { place = 2; bytes = 0 })
