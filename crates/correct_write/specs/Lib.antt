@@ -1,6 +1,7 @@
 pub mod Corrected
 pub mod TagByTag
 pub mod Rests
+pub mod Brief
 pub mod Moving
 pub mod Turning
 pub mod Accepting

@@ -1,7 +1,7 @@
 // A correction over an original, written as one message: the correction's fields, and the original's of all other tags. Values, and the keys that stand
 // behind a key of their own message, are copied as they stand; only where the two meet is a key written anew.
 ghost use mathlib.Core.Path.{_≡_};
-ghost use Prim.Native.Nat.{_+_, _≤_, _<_};
+ghost use Prim.Native.Nat.{_+_, _/_, _≤_, _<_};
 ghost use mathlib.Core.Bool.{false};
 ghost use lib.Dec.{ltb, leb};
 ghost use lib.ListN.{length};
@@ -12,6 +12,7 @@ ghost use Rattle.correct_write.specs.Corrected.{taken, writeCorrected};
 ghost use Rattle.correct_write.specs.TagByTag.{Over};
 ghost use Rattle.correct_write.specs.Rests.{itemsFrom, Rest, Heads};
 ghost use Rattle.correct_write.specs.Moving.{moved, Run, Passing};
+ghost use Rattle.correct_write.specs.Brief.{Brief};
 ghost use Rattle.correct_write.specs.Turning.{Turned, Both, result};
 ghost use Rattle.correct_write.specs.Accepting.{usable};
 use entry_answer::Gated;
@@ -49,6 +50,37 @@ fn accept(s: &[u8]) -> Gated
     }
 }
 
+// How many bytes a payload's field has whose key and length are one byte each; 0 for any other field.
+// INLINE: most fields of a sounding are such, and the readers of a key and of a value are calls. With them alone a correction with fields behind 120 levels
+// took 1.2 times as long.
+fn short_len(s: &[u8], p: usize) -> usize
+    requires { ⌜ p < length (now s) ⌝ }
+    ensures { λ n. ⌜ (0 < n → Brief (now (s .entry)) p n) ⌝ }
+{
+    if s.len() - p < 2 {
+        return 0;
+    }
+    let key = s[p];
+    if 127 < key {
+        return 0;
+    }
+    if key % 4 != 1 {
+        return 0;
+    }
+    let len = s[p + 1];
+    if 127 < len {
+        return 0;
+    }
+    len as usize + 2
+}
+
+// By how much the tag rises at a key of one byte.
+fn rise_of(key: u8) -> u32
+    ensures { λ r. ⌜ r ≡ key / 4 ⌝ }
+{
+    (key / 4) as u32
+}
+
 // The fields from a place on whose tags are below a limit.
 fn pass(s: &[u8], at: usize, last: u32, limit: u64) -> Passed
     requires { ⌜ Rest (now s) at last ⌝ }
@@ -59,6 +91,16 @@ fn pass(s: &[u8], at: usize, last: u32, limit: u64) -> Passed
     let mut p = at;
     let mut tag = last;
     while p < s.len() {
+        let n = short_len(s, p);
+        if 0 < n {
+            let higher = tag + rise_of(s[p]);
+            if limit <= higher as u64 {
+                break;
+            }
+            p += n;
+            tag = higher;
+            continue;
+        }
         match field_key::decode_key(s, p, s.len(), tag) {
             KeyFound::Refused(_) => {
                 break;
