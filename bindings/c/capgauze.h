@@ -1,6 +1,10 @@
-/* Capgauze: a proved reader and writer of Bilrost messages, for C.
+/* Capgauze: a proved reader and writer of Bilrost messages, for C99 and C++ on x86-64 Linux.
  *
- * Link target/staticlib/libcapgauze_c.a, which `rt staticlib capgauze_c` proves and writes (x86-64 Linux).
+ * `./install` puts the library in place, and `pkg-config --cflags --libs capgauze` then says how to compile and link.
+ * Without it link target/staticlib/libcapgauze_c.a, which `rt staticlib capgauze_c` proves and writes.
+ *
+ * This is the one declaration of the interface: what other languages declare is made from it or held against it. So each
+ * function and struct is one statement in plain words, and no macro stands in it.
  *
  * Every answer that can be refused is a struct whose first word is a number of the table below; the other words are
  * what is said at each function, and 0 where nothing is said. A refused call leaves all lent memory as it was.
@@ -20,6 +24,12 @@
 #ifdef __cplusplus
 extern "C" {
 #endif
+
+/* The version. The programs, the shared library's name and the Rust crate have the same. */
+#define CAPGAUZE_VERSION_MAJOR 0
+#define CAPGAUZE_VERSION_MINOR 1
+#define CAPGAUZE_VERSION_PATCH 0
+#define CAPGAUZE_VERSION "0.1.0"
 
 /* The longest slice that is read, and the longest message that is written. */
 #define CAPGAUZE_LIMIT 1048575
@@ -54,6 +64,29 @@ enum {
     CAPGAUZE_NOT_CANONICAL = 14, /* a sounding's first field below the grade taken: an all-ones value written out */
     CAPGAUZE_UNKNOWN_FIELD = 15  /* a sounding's first field below the grade taken: one of an unknown tag */
 };
+
+/* The name of an answer's number; "unknown" for any other number, which no function here answers. */
+static inline const char *capgauze_refusal_name(uint64_t number) {
+    switch (number) {
+    case CAPGAUZE_ACCEPTED: return "Accepted";
+    case CAPGAUZE_TRUNCATED: return "Truncated";
+    case CAPGAUZE_INVALID_VARINT: return "InvalidVarint";
+    case CAPGAUZE_TAG_OVERFLOWED: return "TagOverflowed";
+    case CAPGAUZE_TOO_LONG: return "TooLong";
+    case CAPGAUZE_NO_ROOM: return "NoRoom";
+    case CAPGAUZE_BAD_RECORD: return "BadRecord";
+    case CAPGAUZE_OUT_OF_ORDER: return "OutOfOrder";
+    case CAPGAUZE_BAD_CAP: return "BadCap";
+    case CAPGAUZE_WRONG_WIRE_TYPE: return "WrongWireType";
+    case CAPGAUZE_OUT_OF_RANGE: return "OutOfRange";
+    case CAPGAUZE_REPEATED: return "Repeated";
+    case CAPGAUZE_BAD_INDEX: return "BadIndex";
+    case CAPGAUZE_MISSING_FIELD: return "MissingField";
+    case CAPGAUZE_NOT_CANONICAL: return "NotCanonical";
+    case CAPGAUZE_UNKNOWN_FIELD: return "UnknownField";
+    default: return "unknown";
+    }
+}
 
 /* The four wire types. */
 enum {

@@ -77,6 +77,19 @@ static void numbers(void) {
     SAME((uint64_t)capgauze_u64_to_signed(UINT64_MAX), (uint64_t)INT64_MIN);
 }
 
+/* The macros of the version are one version; a number has its name, and a number of nothing has none. */
+#define TEXT_OF(x) #x
+#define DOTTED(major, minor, patch) TEXT_OF(major) "." TEXT_OF(minor) "." TEXT_OF(patch)
+static void names(void) {
+    const char *version = DOTTED(CAPGAUZE_VERSION_MAJOR, CAPGAUZE_VERSION_MINOR, CAPGAUZE_VERSION_PATCH);
+    SAME((uint64_t)strcmp(version, CAPGAUZE_VERSION), 0);
+    SAME((uint64_t)strcmp(capgauze_refusal_name(CAPGAUZE_ACCEPTED), "Accepted"), 0);
+    SAME((uint64_t)strcmp(capgauze_refusal_name(1), "Truncated"), 0);
+    SAME((uint64_t)strcmp(capgauze_refusal_name(15), "UnknownField"), 0);
+    SAME((uint64_t)strcmp(capgauze_refusal_name(16), "unknown"), 0);
+    SAME((uint64_t)strcmp(capgauze_refusal_name(UINT64_MAX), "unknown"), 0);
+}
+
 static void parts(void) {
     use("");
     SAME(capgauze_decode_varint(S, 0), 1, 0, 0, 0);
@@ -1311,6 +1324,7 @@ static void small_stack(void) {
 
 int main(void) {
     numbers();
+    names();
     parts();
     messages();
     writing();
