@@ -1,4 +1,4 @@
-# Sourced by tools/program.sh: what the programs say of themselves. `root` is the repository's folder.
+# Sourced by tools/program.sh and ./install: what the programs say of themselves. `root` is the repository's folder.
 
 # The numbers of refusals with their names: the one list is `wire::number_of`, whose numbers are proved.
 refusals() {
@@ -57,6 +57,6 @@ END
 }
 
 version() {
-    printf '%s (capgauze) %s\n' "$1" "$(sed -n 's/^version = "\(.*\)"$/\1/p' "$root/bindings/rust/Cargo.toml")"
+    printf '%s (capgauze) %s\n' "$1" "$(sed -n 's/^#define CAPGAUZE_VERSION "\(.*\)"$/\1/p' "$root/bindings/c/capgauze.h")"
     printf 'toolchain: %s\n' "$(rt version 2>/dev/null || echo none)"
 }

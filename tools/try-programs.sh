@@ -10,14 +10,7 @@ root=$(cd "$(dirname "$0")/.." && pwd)
 cd "$root" || exit 1
 room=$(mktemp -d)
 trap 'rm -rf "$room"' EXIT
-right=0 wrong=0
-
-# compares one thing of a run
-is() { # WHAT WANTED GOT
-    if [ "$2" = "$3" ]; then right=$((right + 1)); return; fi
-    wrong=$((wrong + 1))
-    printf 'WRONG %s: %s\n  wanted: %q\n  got:    %q\n' "$name" "$1" "$2" "$3"
-}
+. tools/try.sh
 
 # a run: its status, what it printed (up to a final mark, so that no LF is lost) and what it said
 run() { # ARGUMENT..
@@ -258,5 +251,4 @@ for name in ${*:-dump soundings}; do
     try_first_run
     try_stream
 done
-echo "$right right, $wrong wrong"
-[ "$wrong" -eq 0 ]
+closing
