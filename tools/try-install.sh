@@ -79,7 +79,8 @@ try_library() {
     for kind in shared static; do
         [ $kind = static ] && link=-static || link=
         # shellcheck disable=SC2046
-        gcc -std=c99 -Wall -Wextra -Werror $link "$room/example.c" $(pkg-config --cflags --libs ${link:+--static} capgauze) -o "$room/example" || echo "$kind: not compiled"
+        gcc -std=c99 -Wall -Wextra -Werror $link "$room/example.c" $(pkg-config --cflags --libs ${link:+--static} capgauze) -o "$room/example"
+        is "the example, $kind: is compiled" 0 $?
         run "$room/example" "$root/examples/iced.hex" "$root/examples/rows.hex"
         is "the example, $kind: status" 0 "$status"
         is "the example, $kind: output" "$(cat bindings/c/example.txt)" "$out"
