@@ -1,56 +1,78 @@
-//! What goes in and what comes out: values, records, refusals.
-use core::fmt;
+//! What goes in and what comes out: values, records, levels.
 
 /// The four wire types.
 #[derive(Clone, Copy, Debug, PartialEq, Eq, Hash)]
 pub enum WireType {
+    /// A number in one to nine bytes.
     Varint = 0,
+    /// A length as a varint, and so many bytes: a payload.
     LengthDelimited = 1,
+    /// Four bytes, the lowest first.
     ThirtyTwoBit = 2,
+    /// Eight bytes, the lowest first.
     SixtyFourBit = 3,
 }
 
 /// A field's value. A payload is a part of the message: where it starts, and its length.
 #[derive(Clone, Copy, Debug, PartialEq, Eq, Hash)]
 pub enum Value {
+    /// A number.
     Varint(u64),
-    LengthDelimited { start: usize, length: usize },
+    /// A payload.
+    LengthDelimited {
+        /// The place of its first byte.
+        start: usize,
+        /// How many bytes it has.
+        length: usize,
+    },
+    /// A number of four bytes.
     ThirtyTwoBit(u32),
+    /// A number of eight bytes.
     SixtyFourBit(u64),
 }
 
 /// A field: its tag and one of four values.
 #[derive(Clone, Copy, Debug, PartialEq, Eq, Hash)]
 pub struct Field {
+    /// Its tag.
     pub tag: u32,
+    /// Its value.
     pub value: Value,
 }
 
 /// A key: the tag that it gives, and the wire type of the value behind it.
 #[derive(Clone, Copy, Debug, PartialEq, Eq, Hash)]
 pub struct Key {
+    /// The tag.
     pub tag: u32,
+    /// The wire type.
     pub wire_type: WireType,
 }
 
 /// What was read, and the place after it.
 #[derive(Clone, Copy, Debug, PartialEq, Eq, Hash)]
 pub struct Decoded<T> {
+    /// What was read.
     pub value: T,
+    /// The place after it.
     pub next: usize,
 }
 
 /// An accepted message: the end reached, and the number of its fields.
 #[derive(Clone, Copy, Debug, PartialEq, Eq, Hash)]
 pub struct Read {
+    /// The end reached.
     pub place: usize,
+    /// The number of its fields.
     pub count: usize,
 }
 
 /// A written message: where it starts in the buffer, and its length.
 #[derive(Clone, Copy, Debug, PartialEq, Eq, Hash)]
 pub struct Written {
+    /// Where it starts in the buffer.
     pub start: usize,
+    /// Its length.
     pub length: usize,
 }
 
@@ -59,10 +81,13 @@ pub struct Written {
 /// its source, and a key that is [`NO_KEY`] or a place inside its source. What is written of it does not hang on its key.
 #[derive(Clone, Copy, Debug, PartialEq, Eq, Hash)]
 pub struct Record {
+    /// The tag.
     pub tag: u64,
+    /// The wire type's number.
     pub wire_type: u64,
     /// The value, or the payload's start.
     pub value: u64,
+    /// 0, the payload's length, 4 or 8.
     pub length: u64,
     /// Where the field's key starts, or [`NO_KEY`].
     pub key: u64,
@@ -77,20 +102,26 @@ pub const NO_KEY: u64 = u64::MAX;
 /// A record that is put in by hand: it has no key.
 #[derive(Clone, Copy, Debug, Default, PartialEq, Eq, Hash)]
 pub struct NewRecord {
+    /// The tag.
     pub tag: u64,
+    /// The wire type's number.
     pub wire_type: u64,
     /// The value, or the payload's start.
     pub value: u64,
+    /// 0, the payload's length, 4 or 8.
     pub length: u64,
 }
 
 /// Where the parts of a field start in its message, and where it ends.
 #[derive(Clone, Copy, Debug, PartialEq, Eq, Hash)]
 pub struct Parts {
+    /// The key.
     pub key: usize,
     /// The length of a payload; other values have none.
     pub length: Option<usize>,
+    /// The value, or the payload.
     pub value: usize,
+    /// The end of the field.
     pub end: usize,
 }
 
@@ -182,8 +213,11 @@ impl From<Field> for Record {
 /// entry; a good one has a tag up to 4,294,967,295, a place inside its message, and a count above 0.
 #[derive(Clone, Copy, Debug, Default, PartialEq, Eq, Hash)]
 pub struct Entry {
+    /// The tag.
     pub tag: u64,
+    /// Where the first key of the tag starts.
     pub place: u64,
+    /// How many fields the tag has.
     pub count: u64,
 }
 
@@ -208,23 +242,31 @@ impl Entry {
 /// Which of two messages supplies a tag: the correction, if it has a field of it, else the original.
 #[derive(Clone, Copy, Debug, PartialEq, Eq, Hash)]
 pub enum Supplier {
+    /// The original.
     Original = 1,
+    /// The correction.
     Correction = 2,
 }
 
 /// What a sounding says of itself: its station, its launch in seconds, and the number of its levels.
 #[derive(Clone, Copy, Debug, PartialEq, Eq, Hash)]
 pub struct Sounding {
+    /// Who sent it.
     pub station: u64,
+    /// When the balloon rose, in seconds.
     pub launch: u64,
+    /// The number of its levels.
     pub levels: usize,
 }
 
 /// A level: its pressure in Pa; temperature and dew point depression in tenths of a degree, `None` where missing.
 #[derive(Clone, Copy, Debug, PartialEq, Eq, Hash)]
 pub struct Level {
+    /// In Pa.
     pub pressure: u64,
+    /// In tenths of a degree.
     pub temperature: Option<i64>,
+    /// The dew point's, in tenths of a degree.
     pub depression: Option<u64>,
 }
 
@@ -247,15 +289,20 @@ pub enum Grade {
     NotCanonical = 0,
     /// The tag is unknown.
     HasExtensions = 1,
+    /// A known tag, and no all-ones value.
     Canonical = 2,
 }
 
 /// What a sounding of the second edition says of itself, and the grade that it reaches.
 #[derive(Clone, Copy, Debug, PartialEq, Eq, Hash)]
 pub struct Graded {
+    /// Who sent it.
     pub station: u64,
+    /// When the balloon rose, in seconds.
     pub launch: u64,
+    /// The number of its levels.
     pub levels: usize,
+    /// The least grade of all its fields.
     pub grade: Grade,
 }
 
@@ -263,8 +310,11 @@ pub struct Graded {
 /// where missing.
 #[derive(Clone, Copy, Debug, PartialEq, Eq, Hash)]
 pub struct Windy {
+    /// What a level of the first edition has.
     pub level: Level,
+    /// In tenths of m/s.
     pub speed: Option<u64>,
+    /// In degrees.
     pub direction: Option<u64>,
 }
 
@@ -279,167 +329,4 @@ impl Windy {
             direction: (wind[2] != 0).then(|| wind[3]),
         })
     }
-}
-
-/// Why a call was refused.
-#[derive(Clone, Copy, Debug, PartialEq, Eq, Hash)]
-pub enum Refusal {
-    /// The slice or the end came too soon.
-    Truncated = 1,
-    /// A varint of 2^64 or more.
-    InvalidVarint = 2,
-    /// A tag, or a rise of tags, above 4,294,967,295.
-    TagOverflowed = 3,
-    /// Slice, or bytes to be written, above [`LIMIT`](crate::LIMIT).
-    TooLong = 4,
-    /// A good message or run with more fields, tags or values than there is room for, a buffer too short, a full table or room.
-    NoRoom = 5,
-    /// A record that is not good, or not one of the run or of a working copy; a count above the room, an index not below the count.
-    BadRecord = 6,
-    /// A tag below the one before it.
-    OutOfOrder = 7,
-    /// A place, start or end above the slice's length.
-    BadCap = 8,
-    /// A sounding's field of another wire type.
-    WrongWireType = 9,
-    /// A station, pressure, temperature, depression, wind speed or direction outside its range.
-    OutOfRange = 10,
-    /// A tag that stands more than once where one field of it is wanted.
-    Repeated = 11,
-    /// An index or a line of one that may not be used, or that is seen not to be of the message.
-    BadIndex = 12,
-    /// A sounding without station or launch, or a level without pressure.
-    MissingField = 13,
-    /// A sounding's first field below the grade taken is a value of all ones, written out.
-    NotCanonical = 14,
-    /// A sounding's first field below the grade taken has an unknown tag.
-    UnknownField = 15,
-}
-
-impl Refusal {
-    /// Its number (docs/FORMAT.md, rule R1).
-    pub fn number(self) -> u64 {
-        self as u64
-    }
-}
-
-impl fmt::Display for Refusal {
-    fn fmt(&self, f: &mut fmt::Formatter) -> fmt::Result {
-        write!(f, "{self:?} ({})", self.number())
-    }
-}
-
-impl core::error::Error for Refusal {}
-
-/// Where the read that failed began, and how many bytes of a varint it looked at: 0 where it was no varint's. Both are 0 with
-/// refusals that are not met in the bytes (TooLong, NoRoom, BadCap).
-#[derive(Clone, Copy, Debug, Default, PartialEq, Eq, Hash)]
-pub struct Fault {
-    pub place: usize,
-    pub bytes: usize,
-}
-
-/// What a reader of one part was reading.
-#[derive(Clone, Copy, Debug, PartialEq, Eq, Hash)]
-pub enum Reading {
-    Varint,
-    Key,
-    Value,
-    /// A value that is passed over, with the fields of its tag behind it.
-    Skipped,
-    Field,
-}
-
-impl Reading {
-    fn name(self) -> &'static str {
-        match self {
-            Reading::Varint => "the varint",
-            Reading::Key => "the key",
-            Reading::Value => "the value",
-            Reading::Skipped => "what is skipped",
-            Reading::Field => "the field",
-        }
-    }
-}
-
-/// A reader's refusal in one sentence.
-fn tell(f: &mut fmt::Formatter, refusal: Refusal, what: &str, place: usize, fault: Fault) -> fmt::Result {
-    let why = match refusal {
-        Refusal::Truncated => "ends too soon",
-        Refusal::InvalidVarint => "has a varint of 2^64 or more",
-        Refusal::TagOverflowed => "has a tag above 4,294,967,295",
-        Refusal::TooLong => return write!(f, "{refusal}: the slice has more than {} bytes", crate::LIMIT),
-        Refusal::BadCap => return write!(f, "{refusal}: a place, a start or an end is above the slice's length"),
-        _ => return write!(f, "{refusal}"),
-    };
-    write!(f, "{refusal}: {what} at {place} {why}; the failing read began at {}", fault.place)?;
-    match fault.bytes {
-        0 => Ok(()),
-        1 => write!(f, " and looked at 1 byte of a varint"),
-        n => write!(f, " and looked at {n} bytes of a varint"),
-    }
-}
-
-macro_rules! refusals {
-    ($($(#[$doc:meta])* $name:ident { $($word:ident: $kind:ty),* } $tell:expr;)*) => { $(
-        $(#[$doc])*
-        #[derive(Clone, Copy, Debug, PartialEq, Eq, Hash)]
-        pub struct $name {
-            pub refusal: Refusal,
-            $(pub $word: $kind),*
-        }
-
-        impl fmt::Display for $name {
-            fn fmt(&self, f: &mut fmt::Formatter) -> fmt::Result {
-                let tell: fn(&$name, &mut fmt::Formatter) -> fmt::Result = $tell;
-                tell(self, f)
-            }
-        }
-
-        impl core::error::Error for $name {}
-    )* };
-}
-
-refusals! {
-    /// A reader of one part was refused: what it was reading, and the place that it was given.
-    ///
-    /// ```
-    /// let refused = capgauze::decode_varint(&[0x80], 0).unwrap_err();
-    /// let said = "Truncated (1): the varint at 0 ends too soon; the failing read began at 0 and looked at 1 byte of a varint";
-    /// assert_eq!(refused.to_string(), said);
-    /// ```
-    RefusedAt { reading: Reading, place: usize, fault: Fault }
-        |r, f| tell(f, r.refusal, r.reading.name(), r.place, r.fault);
-    /// A reader that takes a last tag was refused; place and last tag are those that it was given.
-    RefusedAfter { reading: Reading, place: usize, last: u32, fault: Fault }
-        |r, f| tell(f, r.refusal, r.reading.name(), r.place, r.fault);
-    /// A message reader was refused. The place is the first byte of the field being read, or of the last field read, if
-    /// that one passed the end (the start, if no field was read). With NoRoom the count is the number of fields that need
-    /// room; all else is 0.
-    ///
-    /// ```
-    /// let refused = capgauze::read_message(&[0x04, 0x07, 0x00], 0, 3, &mut [0; 8]).unwrap_err();
-    /// let said = "Truncated (1): the message's field at 2 ends too soon; the failing read began at 3";
-    /// assert_eq!(refused.to_string(), said);
-    /// ```
-    RefusedRead { place: usize, count: usize, fault: Fault }
-        |r, f| match r.refusal {
-            Refusal::NoRoom => write!(f, "{}: the table has no room for {} fields", r.refusal, r.count),
-            _ => tell(f, r.refusal, "the message's field", r.place, r.fault),
-        };
-    /// Writing was refused: at the record's index, or the room, where the count is above it; else 0. With NoRoom the length
-    /// that is needed; else 0.
-    RefusedWrite { index: usize, needed: usize }
-        |r, f| match r.refusal {
-            Refusal::NoRoom => write!(f, "{}: the buffer is too short for {} bytes", r.refusal, r.needed),
-            _ => write!(f, "{}, index {}", r.refusal, r.index),
-        };
-    /// An insertion was refused: at a record's index, the room where the count is above it, the count where the new record
-    /// is not good; else 0.
-    RefusedInsert { index: usize }
-        |r, f| write!(f, "{}, index {}", r.refusal, r.index);
-    /// An edit of a working copy was refused: at a record's index, also where there is no such record; the table's room where the
-    /// count is above it; else 0.
-    RefusedEdit { index: usize }
-        |r, f| write!(f, "{}, index {}", r.refusal, r.index);
 }

@@ -73,8 +73,7 @@ fn tables_of_every_small_size() {
                 assert_eq!(table[written..], filled(77, words - written));
             } else {
                 let (place, fault) = (0, NOWHERE);
-                let refused =
-                    RefusedRead { refusal: Refusal::NoRoom, place, count: fields, fault };
+                let refused = RefusedRead { refusal: Refusal::NoRoom, place, count: fields, fault };
                 assert_eq!(answer, Err(refused));
                 assert_eq!(table, filled(77, words));
             }
@@ -192,8 +191,8 @@ fn keys() {
 #[test]
 fn whole_fields() {
     let message = [
-        0x04, 0xFF, 0xFE, 0xFE, 0xFE, 0xFE, 0xFE, 0xFE, 0xFE, 0xFE, 0x09, 0x02, 0xC0, 0xDE, 0x02, 1, 0, 0, 0, 0x03, 1, 0, 0,
-        0, 0, 0, 0, 0,
+        0x04, 0xFF, 0xFE, 0xFE, 0xFE, 0xFE, 0xFE, 0xFE, 0xFE, 0xFE, 0x09, 0x02, 0xC0, 0xDE, 0x02,
+        1, 0, 0, 0, 0x03, 1, 0, 0, 0, 0, 0, 0, 0,
     ];
     let mut table = filled(77, RECORD_WORDS * 4);
     assert_eq!(read_message(&message, 0, 28, &mut table), Ok(Read { place: 28, count: 4 }));
@@ -234,10 +233,7 @@ fn the_limit() {
     let (reading, fault) = (Reading::Varint, NOWHERE);
     let refused = RefusedRead { refusal, place: 0, count: 0, fault };
     assert_eq!(read_message(&message, 0, 0, &mut table), Err(refused));
-    assert_eq!(
-        decode_varint(&message, 5),
-        Err(RefusedAt { refusal, reading, place: 5, fault })
-    );
+    assert_eq!(decode_varint(&message, 5), Err(RefusedAt { refusal, reading, place: 5, fault }));
     assert_eq!(pick(&message, 0), Err(refusal));
     assert_eq!(pick_early(&message, 0), Err(refusal));
     let refused = RefusedWrite { refusal, index: 0, needed: 0 };
@@ -269,10 +265,7 @@ fn the_limit() {
     );
     // payloads of gigabytes, all told, and a bad record behind them
     let mut table = payload(LIMIT as u64).repeat(5_000);
-    assert_eq!(
-        encode_message(&message[..LIMIT], &table, 5_000, &mut []),
-        Err(refused_too_long())
-    );
+    assert_eq!(encode_message(&message[..LIMIT], &table, 5_000, &mut []), Err(refused_too_long()));
     let bad = RefusedWrite { refusal: Refusal::BadRecord, index: 4_999, needed: 0 };
     for word in [2, 1] {
         let place = table.len() - word; // its length, its key
@@ -403,13 +396,39 @@ fn lookups_through_an_index_of_another_message() {
 #[test]
 fn lines_that_are_none() {
     for line in [
-        "0", "2", "00", "03", "10", "12", "20", "010", "020", "01\n", "02\n", "02 ",
-        "020000000A00000000000", "020000000A0000000000010", "020000000a000000000001", "020000000G000000000001",
-        "020000000:000000000001", "020000000@000000000001", "020000000/000000000001", "020000000A000000000000",
-        "020000000A0000000000010000000A000000000001", "020000000B0000000000010000000A000000000001",
-        "02é000000A00000000001", "030000000A000000000001", "020000000A00000001", "010000000A000000000001",
-        "010000000A0000000", "010000000A000000010", "010000000a00000001", "010000000G00000001",
-        "010000000A00000000", "010000000A000000010000000A00000001", "010000000B000000010000000A00000001",
+        "0",
+        "2",
+        "00",
+        "03",
+        "10",
+        "12",
+        "20",
+        "010",
+        "020",
+        "01\n",
+        "02\n",
+        "02 ",
+        "020000000A00000000000",
+        "020000000A0000000000010",
+        "020000000a000000000001",
+        "020000000G000000000001",
+        "020000000:000000000001",
+        "020000000@000000000001",
+        "020000000/000000000001",
+        "020000000A000000000000",
+        "020000000A0000000000010000000A000000000001",
+        "020000000B0000000000010000000A000000000001",
+        "02é000000A00000000001",
+        "030000000A000000000001",
+        "020000000A00000001",
+        "010000000A000000000001",
+        "010000000A0000000",
+        "010000000A000000010",
+        "010000000a00000001",
+        "010000000G00000001",
+        "010000000A00000000",
+        "010000000A000000010000000A00000001",
+        "010000000B000000010000000A00000001",
         "01é000000A0000001",
     ] {
         for message_len in [0, 65_535, 65_536, LIMIT, usize::MAX] {
@@ -517,7 +536,8 @@ fn parts_of_the_supplier() {
     lies(corrected_part(&original, &empty, 0), &empty, 2, 0);
     assert_eq!(corrected_by(&original, &empty, 0), Ok(Some(Supplier::Correction)));
     // every type: bytes as they stand, a payload's without its length
-    let types = [0x04, 0x80, 0x00, 0x05, 0x01, 0xC0, 0x06, 1, 2, 3, 4, 0x07, 1, 2, 3, 4, 5, 6, 7, 8];
+    let types =
+        [0x04, 0x80, 0x00, 0x05, 0x01, 0xC0, 0x06, 1, 2, 3, 4, 0x07, 1, 2, 3, 4, 5, 6, 7, 8];
     for (tag, start, length) in [(1, 1, 2), (2, 5, 1), (3, 7, 4), (4, 12, 8)] {
         lies(corrected_part(&types, &empty, tag), &types, start, length);
         lies(corrected_part(&empty, &types, tag), &types, start, length);
@@ -572,7 +592,8 @@ fn suppliers_and_their_refusals() {
 fn the_longest_result() {
     for (spare, refusal) in [(6, None), (5, Some(Refusal::TooLong))] {
         let payload = filled(0, LIMIT - spare);
-        let field = Field { tag: 0, value: Value::LengthDelimited { start: 0, length: payload.len() } };
+        let field =
+            Field { tag: 0, value: Value::LengthDelimited { start: 0, length: payload.len() } };
         let original = message(&[field.into()], &payload).unwrap();
         let result = corrected(&original, &[4, 0]);
         assert_eq!(result.as_ref().err(), refusal.as_ref());
@@ -628,10 +649,16 @@ fn runs_into_every_small_table() {
         // one byte less, and no value is shown; the table stays
         let mut table = filled(77, 15);
         for number in 0..4 {
-            assert_eq!(run_value(&run[..run.len() - 1], wire_type, number).is_err(), wire_type != WireType::Varint);
+            assert_eq!(
+                run_value(&run[..run.len() - 1], wire_type, number).is_err(),
+                wire_type != WireType::Varint
+            );
         }
         if wire_type != WireType::Varint {
-            assert_eq!(read_run(&run[..run.len() - 1], wire_type, &mut table), Err(Refusal::Truncated));
+            assert_eq!(
+                read_run(&run[..run.len() - 1], wire_type, &mut table),
+                Err(Refusal::Truncated)
+            );
             assert_eq!(table, filled(77, 15));
         }
     }
@@ -788,7 +815,9 @@ fn no_copy(room: &[u8], table: &[u64], count: usize, refusal: Refusal, index: us
 fn copies_that_are_none() {
     let (room, bad) = ([0xAA; 4], Refusal::BadRecord);
     let copy = |rows: &[(u64, usize, usize)]| {
-        rows.iter().flat_map(|&(tag, start, length)| payload_row(tag, start, length)).collect::<Vec<_>>()
+        rows.iter()
+            .flat_map(|&(tag, start, length)| payload_row(tag, start, length))
+            .collect::<Vec<_>>()
     };
     let two = copy(&[(0, 0, 1), (0, 1, 1)]);
     no_copy(&filled(0, LIMIT + 1), &two, 2, Refusal::TooLong, 0);
@@ -993,8 +1022,14 @@ fn refusals_in_a_sentence() {
     };
     let truncated = |place, failing| begins("Truncated (1)", place, "ends too soon", failing);
     assert_eq!(told(&[0x04], 1), truncated(0, 1)); // a key, and no value
-    assert_eq!(told(&[0x00, 0x07, 0x00, 0x80], 4), truncated(2, 3) + " and looked at 1 byte of a varint");
-    assert_eq!(told(&[0x00, 0x07, 0x80, 0x80], 4), truncated(2, 2) + " and looked at 2 bytes of a varint");
+    assert_eq!(
+        told(&[0x00, 0x07, 0x00, 0x80], 4),
+        truncated(2, 3) + " and looked at 1 byte of a varint"
+    );
+    assert_eq!(
+        told(&[0x00, 0x07, 0x80, 0x80], 4),
+        truncated(2, 2) + " and looked at 2 bytes of a varint"
+    );
     assert_eq!(told(&[0x01, 0x03, 0xAA], 3), truncated(0, 1)); // a payload that is too long: its length
     assert_eq!(told(&[0x02, 0x01, 0x02], 3), truncated(0, 1)); // four bytes that are not there
     assert_eq!(told(&[0x00, 0x80, 0x00], 2), truncated(0, 3)); // the end was passed: the place reached
@@ -1004,11 +1039,11 @@ fn refusals_in_a_sentence() {
     let said = begins("InvalidVarint (2)", 0, why, 1) + " and looked at 9 bytes of a varint";
     assert_eq!(told(&invalid, 10), said);
     let why = "has a tag above 4,294,967,295";
-    assert_eq!(told(&[0x80, 0xFF, 0xFE, 0xFE, 0x3E, 0x00], 6), begins("TagOverflowed (3)", 0, why, 0));
     assert_eq!(
-        told(&[], 1),
-        "BadCap (8): a place, a start or an end is above the slice's length"
+        told(&[0x80, 0xFF, 0xFE, 0xFE, 0x3E, 0x00], 6),
+        begins("TagOverflowed (3)", 0, why, 0)
     );
+    assert_eq!(told(&[], 1), "BadCap (8): a place, a start or an end is above the slice's length");
     let short = read_message(&[0x00, 0x07], 0, 2, &mut []).unwrap_err();
     assert_eq!(short.to_string(), "NoRoom (5): the table has no room for 1 fields");
 }

@@ -226,7 +226,7 @@ enum Edit<'a> {
 
 /// Rules H1 to H9 of docs/FORMAT.md, by sorting.
 fn expected_edit(
-    room: &mut Vec<u8>,
+    room: &mut [u8],
     table: &mut [u64],
     count: usize,
     edit: Edit,
@@ -258,7 +258,7 @@ fn expected_edit(
     }
     let mut start = order.iter().map(|&i| rows[i][2] + rows[i][3]).max().unwrap_or(0) as usize;
     if start + bytes.len() > room.len() {
-        let old = room.clone();
+        let old = room.to_vec();
         order.sort_by_key(|&i| rows[i][2]);
         start = 0;
         for i in order {

@@ -1,6 +1,8 @@
 //! Indexes: made, compared, looked up through, written and read; of the message, damaged, and of another one.
 use super::*;
-use told::{bound, expected_entries, expected_index, expected_lookup, line_of, sound, Words, NEW, OLD};
+use told::{
+    bound, expected_entries, expected_index, expected_lookup, line_of, sound, Words, NEW, OLD,
+};
 
 impl Against {
     /// All of it for one message.
@@ -103,7 +105,8 @@ impl Against {
 
     /// An index as a line, and back.
     fn line(&mut self, index: &[u64], tags: usize) {
-        let line = sound(index, tags, bound(NEW), bound(NEW) - 1).map(|entries| line_of(NEW, &entries));
+        let line =
+            sound(index, tags, bound(NEW), bound(NEW) - 1).map(|entries| line_of(NEW, &entries));
         let need = line.as_ref().map_or(22, Vec::len);
         let mut buf = vec![0xA5; self.chance.one(&[need, need, need + 5, need - 1, 0, 1])];
         let mut expected = buf.clone();
@@ -126,7 +129,8 @@ impl Against {
         for _ in 0..4 {
             let message_len = self.beside(len);
             let entries = expected_entries(&line, message_len);
-            let back = entries.as_ref().map_or_else(|_| Vec::new(), |entries| line_of(NEW, entries));
+            let back =
+                entries.as_ref().map_or_else(|_| Vec::new(), |entries| line_of(NEW, entries));
             let need = 3 * entries.as_ref().map_or(1, Vec::len);
             let words = self.chance.one(&[need, need + 2, need.saturating_sub(1), 0]);
             let mut index = vec![FILL; words];

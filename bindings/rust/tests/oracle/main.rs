@@ -18,8 +18,8 @@ use chance::Chance;
 use std::sync::atomic::{AtomicU64, Ordering};
 use std::time::{Instant, SystemTime, UNIX_EPOCH};
 use told::{
-    expected_read, fours, good, key_fault, keyed, limited, looked, named, skip_fault, step_fault, tested, value,
-    value_fault, Row,
+    expected_read, fours, good, key_fault, keyed, limited, looked, named, skip_fault, step_fault,
+    tested, value, value_fault, Row,
 };
 
 const FILL: u64 = 0xA5A5_A5A5_A5A5_A5A5;
@@ -377,7 +377,11 @@ impl Against {
         same!(self, pick(s, tag), only, s, tag);
         let early = stop(s, tag).and_then(|(keys, place)| {
             let values = Blob::index(&s[..place], tag).map_err(named)?;
-            if values.len() > 1 { Err(Refusal::Repeated) } else { Ok((keys, at(&values, 0))) }
+            if values.len() > 1 {
+                Err(Refusal::Repeated)
+            } else {
+                Ok((keys, at(&values, 0)))
+            }
         });
         same!(self, pick_early(s, tag), early, s, tag);
         let last = index.as_ref().map_or(0, Vec::len);

@@ -107,7 +107,11 @@ pub fn field_fault(s: &[u8], at: usize, end: usize, last: u32) -> Fault {
 
 /// Of a refused step.
 pub fn step_fault(s: &[u8], at: usize, end: usize, last: u32) -> Fault {
-    if at > end { Fault { place: at, bytes: 0 } } else { field_fault(s, at, end, last) }
+    if at > end {
+        Fault { place: at, bytes: 0 }
+    } else {
+        field_fault(s, at, end, last)
+    }
 }
 
 /// Of refused skipping: the value that failed may be a later one. A value alone is skipped under the end 0.
@@ -145,11 +149,7 @@ pub fn good(source: &[u8], [tag, kind, value, length, key]: Row) -> bool {
 }
 
 /// The records to be written as a message, or the refusal and its index.
-pub fn tested(
-    source: &[u8],
-    table: &[u64],
-    count: usize,
-) -> Result<Vec<Row>, (Refusal, usize)> {
+pub fn tested(source: &[u8], table: &[u64], count: usize) -> Result<Vec<Row>, (Refusal, usize)> {
     tested_by(source, table, count, |i, rows| match i {
         _ if !good(source, rows[i]) => Err(Refusal::BadRecord),
         1.. if rows[i][0] < rows[i - 1][0] => Err(Refusal::OutOfOrder),
@@ -241,7 +241,11 @@ pub fn expected_lookup(
         }
         at = Blob::value(s, behind, end, kind).map_err(named)?.1;
     }
-    if count > 1 { Err(Refusal::Repeated) } else { Ok(Some(value(kind, number, length))) }
+    if count > 1 {
+        Err(Refusal::Repeated)
+    } else {
+        Ok(Some(value(kind, number, length)))
+    }
 }
 
 /// A line of an edition: its number, and its digits of a place and of a count.
@@ -250,8 +254,7 @@ pub const OLD: Edition = ("01", 4);
 pub const NEW: Edition = ("02", 6);
 
 pub fn line_of((name, width): Edition, entries: &[Words]) -> Vec<u8> {
-    let digits =
-        |[tag, place, count]: &Words| format!("{tag:08X}{place:0width$X}{count:0width$X}");
+    let digits = |[tag, place, count]: &Words| format!("{tag:08X}{place:0width$X}{count:0width$X}");
     [name.to_string()].into_iter().chain(entries.iter().map(digits)).collect::<String>().into()
 }
 

@@ -1,4 +1,5 @@
 //! A working copy that owns its room and its table.
+use super::written::with_room;
 use crate::*;
 use alloc::{vec, vec::Vec};
 

@@ -1,6 +1,7 @@
 //! Packed runs as slices: all values of a run by one call, and a run of all values.
 //!
 //! While one is made or read, it has a table on the heap, 40 bytes a value.
+use super::written::with_room;
 use crate::*;
 use alloc::{vec, vec::Vec};
 
