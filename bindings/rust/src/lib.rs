@@ -83,3 +83,8 @@ pub use write::*;
 
 /// The longest slice that is read, and the longest message that is written.
 pub const LIMIT: usize = 1_048_575;
+
+/// The examples of README.md, which are run as the others are.
+#[cfg(doctest)]
+#[doc = include_str!("../README.md")]
+struct Readme;

@@ -94,13 +94,19 @@ impl From<Refusal> for RefusedFrame {
 }
 
 /// The bytes of a line of hexadecimal digits, small or capital.
-fn bytes_of(line: &[u8]) -> Result<Vec<u8>, RefusedFrame> {
+///
+/// ```
+/// # use capgauze::{frame_bytes, RefusedFrame};
+/// assert_eq!(frame_bytes("04fF"), Ok(vec![0x04, 0xFF]));
+/// assert_eq!(frame_bytes("04f"), Err(RefusedFrame::Hex));
+/// ```
+pub fn frame_bytes(line: impl AsRef<[u8]>) -> Result<Vec<u8>, RefusedFrame> {
     let digit = |c: u8| char::from(c).to_digit(16).map(|digit| digit as u8);
     let byte = |pair: &[u8]| match pair {
         &[high, low] => Some(16 * digit(high)? + digit(low)?),
         _ => None,
     };
-    line.chunks(2).map(byte).collect::<Option<_>>().ok_or(RefusedFrame::Hex)
+    line.as_ref().chunks(2).map(byte).collect::<Option<_>>().ok_or(RefusedFrame::Hex)
 }
 
 /// The soundings of lines, each a frame in hexadecimal, without its end of line. There is an item for each line, in its place: a
@@ -121,7 +127,7 @@ fn bytes_of(line: &[u8]) -> Result<Vec<u8>, RefusedFrame> {
 pub fn soundings<L: AsRef<[u8]>>(
     lines: impl IntoIterator<Item = L>,
 ) -> impl Iterator<Item = Result<Ascent, RefusedFrame>> {
-    lines.into_iter().map(|line| Ok(sounding(&bytes_of(line.as_ref())?)?))
+    lines.into_iter().map(|line| Ok(sounding(&frame_bytes(line)?)?))
 }
 
 /// The soundings of lines, of the second edition, of which no field below a grade is taken. Lines as [`soundings`] has them.
@@ -141,5 +147,5 @@ pub fn graded_soundings<L: AsRef<[u8]>>(
     lines: impl IntoIterator<Item = L>,
     least: Grade,
 ) -> impl Iterator<Item = Result<GradedAscent, RefusedFrame>> {
-    lines.into_iter().map(move |line| Ok(graded(&bytes_of(line.as_ref())?, least)?))
+    lines.into_iter().map(move |line| Ok(graded(&frame_bytes(line)?, least)?))
 }
