@@ -15,6 +15,8 @@ import subprocess
 import sys
 import time
 
+from shown import shown
+
 root = os.path.dirname(os.path.dirname(os.path.abspath(__file__)))
 NAMES = ["frame", "station", "launch", "level", "pressure_pa", "temperature_c", "dewpoint_depression_c", "refusal"]
 
@@ -125,23 +127,13 @@ def short(name, source, output):
 
 def examples(name, path):
     with open(path) as f:
-        lines = f.read().split("\n")
-    found = 0
-    for i, line in enumerate(lines):
-        m = re.match(rf"(\s*)\$ (.*\b{name}\b.*)$", line)
-        if not m:
-            continue
-        wanted = []
-        for text in lines[i + 1:]:
-            if not text.startswith(m[1]) or text == "" or text[len(m[1])] in "$. ":
-                break
-            wanted.append(text[len(m[1]):])
-        ran = subprocess.run(["bash", "-c", m[2]], cwd=root, env={**os.environ, "PATH": f"{root}:{os.environ['PATH']}"}, stdout=subprocess.PIPE)
+        commands = [(command, wanted) for command, wanted in shown(f.read()) if re.search(rf"\b{name}\b", command)]
+    for command, wanted in commands:
+        ran = subprocess.run(["bash", "-c", command], cwd=root, env={**os.environ, "PATH": f"{root}:{os.environ['PATH']}"}, stdout=subprocess.PIPE)
         got = ran.stdout.decode().split("\n")[:-1]
         if got != wanted:
-            return f"'{m[2]}' prints {got}, and {path} has {wanted}"
-        found += 1
-    return "right" if found else "no example"
+            return f"'{command}' prints {got}, and {path} has {wanted}"
+    return "right" if commands else "no example"
 
 
 print({"rows": rows, "short": short, "examples": examples}[sys.argv[1]](*sys.argv[2:]))

@@ -29,7 +29,7 @@ fn main() -> Result<(), Box<dyn Error>> {
                     Err(refused) => println!("{frame}: {refused}"),
                     Ok(ascent) => {
                         println!(
-                            "{frame}: station {}, {} levels",
+                            "{frame}: station {}, levels {}",
                             ascent.station,
                             ascent.levels.len()
                         );
