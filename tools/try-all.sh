@@ -13,6 +13,7 @@ case ${1:-} in
 '') ;;
 --clone)
     room=$(mktemp -d)
+    chmod 755 "$room"
     trap 'rm -rf "$room"' EXIT
     git clone --quiet "$root" "$room/clone" && "$room/clone/tools/try-all.sh"
     exit

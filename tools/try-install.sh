@@ -146,7 +146,7 @@ try_refusals() {
     mkdir -m 555 "$room/shut"
     if [ "$(id -u)" != 0 ]; then
         install --prefix "$room/shut"
-    elif command -v setpriv >/dev/null && setpriv --reuid=65534 --regid=65534 --clear-groups test -x ./install 2>/dev/null; then
+    elif command -v setpriv >/dev/null && setpriv --reuid=65534 --regid=65534 --clear-groups test -r "$root/tools/prove.sh" 2>/dev/null; then
         setpriv --reuid=65534 --regid=65534 --clear-groups ./install --prefix "$room/shut" >"$room/out" 2>"$room/err"
         status=$? err=$(cat "$room/err")
     else

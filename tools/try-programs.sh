@@ -78,7 +78,7 @@ try_failures() {
     if [ "$(id -u)" != 0 ]; then
         run "$room/shut"
         refused_run 'a file that may not be read' "$name: $room/shut: Permission denied"
-    elif command -v setpriv >/dev/null && setpriv --reuid=65534 --regid=65534 --clear-groups test -x "./$name" 2>/dev/null; then
+    elif command -v setpriv >/dev/null && setpriv --reuid=65534 --regid=65534 --clear-groups test -x "$root/tools/program.sh" 2>/dev/null; then
         chmod 755 "$room"
         setpriv --reuid=65534 --regid=65534 --clear-groups "./$name" "$room/shut" >"$room/out" 2>"$room/err"
         status=$? out=$(cat "$room/out"; echo .) err=$(cat "$room/err")
