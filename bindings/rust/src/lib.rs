@@ -2,7 +2,8 @@
 //!
 //! Every function here calls entries of the static library that `rt staticlib capgauze_c` proves and writes (x86-64
 //! Linux); the types only put names on its numbers. No wrapper refuses anything itself. A refused call leaves all that
-//! it was lent as it was. The crate needs neither `std` nor, without the feature `alloc`, an allocator.
+//! it was lent as it was. Over an archive of this version nothing panics. The crate needs neither `std` nor, without the
+//! feature `alloc`, an allocator.
 //!
 //! With `alloc`, which is there by default, a message is read by one call. [`Message`] owns the table of its records, and
 //! payloads are parts of the bytes, not copies:

@@ -92,3 +92,16 @@ pub(crate) fn edited(answer: ffi::Number) -> Result<usize, RefusedEdit> {
     let index = answer.value as usize;
     accepted(answer.number).map(|()| index).map_err(|refusal| RefusedEdit { refusal, index })
 }
+
+#[cfg(test)]
+mod tests {
+    use super::*;
+
+    /// A number that has no name here is never taken for an accepted one.
+    #[test]
+    fn every_number_but_0_is_refused() {
+        assert_eq!(accepted(0), Ok(()));
+        assert_eq!(accepted(15), Err(Refusal::UnknownField));
+        assert_eq!([16, u64::MAX].map(accepted), [Err(Refusal::Unknown); 2]);
+    }
+}
