@@ -4,6 +4,10 @@ ghost use mathlib.Core.Path.{_≡_};
 ghost use Prim.Native.Nat.{_≤_};
 ghost use lib.ListN.{length};
 use stream_orders::Argument;
+use stream_orders::Fault;
+use stream_orders::Least;
+use stream_orders::Orders;
+use stream_orders::Wants;
 
 // What was read: bytes; a file's end; the end of the last file; a failure, which was said.
 pub enum Got {
@@ -25,6 +29,8 @@ pub struct Start {
     pub ready: bool,
     pub count: bool,
     pub status: bool,
+    pub second: bool,
+    pub least: Least,
 }
 
 // The most arguments, the program's name among them.
@@ -40,13 +46,22 @@ const LABEL: usize = 4_224;
 
 // ---- arguments
 
-fn argument_at(i: usize, names: bool) -> Argument {
+fn argument_at(i: usize, o: Orders) -> Argument {
     let mut word = [0u8; NAME];
     let n = os::arg(i, &mut word);
+    let wants = o.wants;
     if os::errno() != 0 {
-        return Argument::File;
+        return long_argument(wants);
     }
-    stream_orders::argument_of(&word[0..n], names)
+    stream_orders::argument_of(&word[0..n], o.names, wants)
+}
+
+// An argument that is longer than any option is a name, and no edition and no grade.
+fn long_argument(wants: Wants) -> Argument {
+    match wants {
+        Wants::Nothing => Argument::File,
+        _ => Argument::Unknown,
+    }
 }
 
 // ---- what is said
@@ -242,20 +257,57 @@ fn not_ready() -> Start {
         ready: false,
         count: false,
         status: false,
+        second: false,
+        least: Least::Unsaid,
     }
 }
 
-fn refuse_option(program: &[u8], i: usize, status: bool) -> Start {
-    let mut word = [0u8; NAME];
-    let n = os::arg(i, &mut word);
-    say(program);
-    say(b": there is no option ");
-    say(&word[0..n]);
+// Ends what is said of arguments that are refused: how the program is called, and the status.
+fn refuse(program: &[u8], editions: bool, status: bool) -> Start {
     say(b"\nusage: ");
     say(program);
-    say(b" [--count] [FILE..]\n");
+    say(b" [--count]");
+    if editions {
+        say(b" [--edition 1|2] [--least canonical|extensions|any]");
+    }
+    say(b" [FILE..]\n");
     tell(status, b"2");
     not_ready()
+}
+
+// Says what there is not.
+fn say_none(wants: Wants) {
+    match wants {
+        Wants::Nothing => say(b": there is no option "),
+        Wants::Edition => say(b": there is no edition "),
+        Wants::Grade => say(b": there is no grade "),
+    }
+}
+
+fn refuse_word(program: &[u8], editions: bool, i: usize, o: Orders) -> Start {
+    let mut word = [0u8; NAME];
+    let n = os::arg(i, &mut word);
+    let wants = o.wants;
+    say(program);
+    say_none(wants);
+    say(&word[0..n]);
+    refuse(program, editions, o.status)
+}
+
+// Says what is wrong with the arguments together.
+fn say_fault(fault: Fault) {
+    match fault {
+        Fault::Nothing => {}
+        Fault::NoEdition => say(b": behind --edition there has to be 1 or 2"),
+        Fault::NoGrade => say(b": behind --least there has to be canonical, extensions or any"),
+        Fault::LeastAlone => say(b": --least is for --edition 2"),
+    }
+}
+
+fn refuse_all(program: &[u8], editions: bool, fault: Fault, status: bool) -> Start {
+    say(program);
+    say_fault(fault);
+    refuse(program, editions, status)
 }
 
 fn refuse_number(program: &[u8]) -> Start {
@@ -304,7 +356,7 @@ fn open_files(program: &[u8], files: &mut [i32], count: usize) -> bool {
         if files.len() <= i {
             return false;
         }
-        let a = argument_at(i, o.names);
+        let a = argument_at(i, o);
         let fd = descriptor_for(program, i, a);
         if fd < 0 {
             if is_file(a) {
@@ -330,36 +382,60 @@ fn use_input(files: &mut [i32]) -> bool {
     true
 }
 
-fn is_unknown(a: Argument) -> bool {
+// Whether the program has no such option; editions are for programs that print soundings.
+fn is_unknown(a: Argument, editions: bool) -> bool {
     match a {
         Argument::Unknown => true,
+        Argument::Edition => !editions,
+        Argument::Least => !editions,
         _ => false,
     }
 }
 
+fn is_good(fault: Fault) -> bool {
+    match fault {
+        Fault::Nothing => true,
+        _ => false,
+    }
+}
+
+// Opens all files, for arguments that are good.
+fn open_orders(program: &[u8], files: &mut [i32], count: usize, o: Orders) -> Start
+    ensures { λ r. ⌜ length (now (files .exit)) ≡ length (now (files .entry)) ⌝ }
+{
+    if files.len() < count {
+        return refuse_number(program);
+    }
+    let least = o.least;
+    Start {
+        ready: open_files(program, files, count),
+        count: o.count,
+        status: o.status,
+        second: o.second,
+        least: least,
+    }
+}
+
 // Reads the arguments, opens all files, and says why there is nothing to do where that fails.
-pub fn open_all(program: &[u8], files: &mut [i32]) -> Start
+pub fn open_all(program: &[u8], files: &mut [i32], editions: bool) -> Start
     ensures { λ r. ⌜ length (now (files .exit)) ≡ length (now (files .entry)) ⌝ }
 {
     let count = os::arg_count();
     let mut o = stream_orders::no_orders();
     let mut i = 1;
     while i < count {
-        let a = argument_at(i, o.names);
-        if is_unknown(a) {
-            return refuse_option(program, i, o.status);
+        let a = argument_at(i, o);
+        if is_unknown(a, editions) {
+            return refuse_word(program, editions, i, o);
         }
         o = stream_orders::ordered(o, a);
         i += 1;
     }
-    if files.len() < count {
-        return refuse_number(program);
+    let fault = stream_orders::fault_of(o);
+    if !is_good(fault) {
+        return refuse_all(program, editions, fault, o.status);
     }
-    Start {
-        ready: open_files(program, files, count),
-        count: o.count,
-        status: o.status,
-    }
+    open_orders(program, files, count, o)
 }
 
 // Ends a run in which all was read and written: the output is closed, and the status told. It is 1 where closing failed.

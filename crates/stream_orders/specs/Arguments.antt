@@ -9,8 +9,11 @@ use lib.ListN.{length, getD}
 use borrow.Author.Tests.{eq-eqb, eqb-true}
 use Rattle.wire.specs.Choose.{choose}
 use Rattle.stream_orders.specs.declared.Argument.{Argument}
-use Rattle.stream_orders.specs.declared.Argument.the-variants.{File, Input, Count, Status, Names, Unknown}
-use Rattle.stream_orders.specs.declared.Orders.{Orders}
+use Rattle.stream_orders.specs.declared.Argument.the-variants.{File, Input, Count, Status, Names, Chosen, Taken, Unknown}
+use Rattle.stream_orders.specs.declared.Argument.the-variants as argument
+use Rattle.stream_orders.specs.declared.Least.the-variants as least
+use Rattle.stream_orders.specs.declared.Wants.{Wants}
+use Rattle.stream_orders.specs.declared.Wants.the-variants as wanted
 
 -- ---- DEFINITIONS
 
@@ -39,26 +42,48 @@ wordStatus = 45 ∷ 45 ∷ 115 ∷ 116 ∷ 97 ∷ 116 ∷ 117 ∷ 115 ∷ []
 abbrev pub wordNames : List ℕ
 wordNames = 45 ∷ 45 ∷ []
 
+-- `--edition` and `--least`
+abbrev pub wordEdition : List ℕ
+wordEdition = 45 ∷ 45 ∷ 101 ∷ 100 ∷ 105 ∷ 116 ∷ 105 ∷ 111 ∷ 110 ∷ []
+
+abbrev pub wordLeast : List ℕ
+wordLeast = 45 ∷ 45 ∷ 108 ∷ 101 ∷ 97 ∷ 115 ∷ 116 ∷ []
+
+-- `canonical`, `extensions` and `any`
+abbrev pub wordCanonical : List ℕ
+wordCanonical = 99 ∷ 97 ∷ 110 ∷ 111 ∷ 110 ∷ 105 ∷ 99 ∷ 97 ∷ 108 ∷ []
+
+abbrev pub wordExtensions : List ℕ
+wordExtensions = 101 ∷ 120 ∷ 116 ∷ 101 ∷ 110 ∷ 115 ∷ 105 ∷ 111 ∷ 110 ∷ 115 ∷ []
+
+abbrev pub wordAny : List ℕ
+wordAny = 97 ∷ 110 ∷ 121 ∷ []
+
 -- an option by its word
 unfoldable pub optionOf : List ℕ → Argument
-optionOf w = choose (alike w wordCount) Count (choose (alike w wordStatus) Status (choose (alike w wordNames) Names Unknown))
+optionOf w =
+    choose (alike w wordCount) Count
+    (choose (alike w wordStatus) Status
+    (choose (alike w wordNames) Names (choose (alike w wordEdition) argument.Edition (choose (alike w wordLeast) argument.Least Unknown))))
+
+-- an edition by its number, and a least grade by its word
+unfoldable pub editionOf : List ℕ → Argument
+editionOf w = choose (alike w (49 ∷ [])) (Chosen false) (choose (alike w (50 ∷ [])) (Chosen true) Unknown)
+
+unfoldable pub gradeOf : List ℕ → Argument
+gradeOf w =
+    choose (alike w wordCanonical) (Taken least.Canonical)
+    (choose (alike w wordExtensions) (Taken least.Extensions) (choose (alike w wordAny) (Taken least.Any) Unknown))
 
 -- `-` is the standard input; behind `--`, and without `-` in front, a word is a file's name; else an option
-unfoldable pub argumentOf : List ℕ → Bool → Argument
-argumentOf w names = choose (alike w wordInput) Input (choose names File (choose (dashed w) (optionOf w) File))
+unfoldable pub plainOf : List ℕ → Bool → Argument
+plainOf w names = choose (alike w wordInput) Input (choose names File (choose (dashed w) (optionOf w) File))
 
--- nothing is asked for
-abbrev pub noOrders : Orders
-noOrders = record { count = false; status = false; named = false; names = false }
-
--- what the arguments ask for with one more
-unfoldable pub orderedBy : Orders → Argument → Orders
-orderedBy o File = record { count = o .count; status = o .status; named = true; names = o .names }
-orderedBy o Input = record { count = o .count; status = o .status; named = true; names = o .names }
-orderedBy o Count = record { count = true; status = o .status; named = o .named; names = o .names }
-orderedBy o Status = record { count = o .count; status = true; named = o .named; names = o .names }
-orderedBy o Names = record { count = o .count; status = o .status; named = o .named; names = true }
-orderedBy o Unknown = o
+-- behind an option that wants one, an edition or a grade
+unfoldable pub argumentOf : List ℕ → Bool → Wants → Argument
+argumentOf w names wanted.Nothing = plainOf w names
+argumentOf w names wanted.Edition = editionOf w
+argumentOf w names wanted.Grade = gradeOf w
 
 -- ---- their cases
 
@@ -75,24 +100,63 @@ module _ (w : List ℕ) where
   unfolding optionOf
   option-names a b d = rw (← a, ← b, ← d)
 
-  pub option-none : false ≡ alike w wordCount → false ≡ alike w wordStatus → false ≡ alike w wordNames → Unknown ≡ optionOf w
+  pub option-edition : false ≡ alike w wordCount → false ≡ alike w wordStatus → false ≡ alike w wordNames
+      → true ≡ alike w wordEdition → argument.Edition ≡ optionOf w
   unfolding optionOf
-  option-none a b d = rw (← a, ← b, ← d)
+  option-edition a b d e = rw (← a, ← b, ← d, ← e)
 
-  pub word-input : (names : Bool) → true ≡ alike w wordInput → Input ≡ argumentOf w names
-  unfolding argumentOf
+  pub option-least : false ≡ alike w wordCount → false ≡ alike w wordStatus → false ≡ alike w wordNames
+      → false ≡ alike w wordEdition → true ≡ alike w wordLeast → argument.Least ≡ optionOf w
+  unfolding optionOf
+  option-least a b d e f = rw (← a, ← b, ← d, ← e, ← f)
+
+  pub option-none : false ≡ alike w wordCount → false ≡ alike w wordStatus → false ≡ alike w wordNames
+      → false ≡ alike w wordEdition → false ≡ alike w wordLeast → Unknown ≡ optionOf w
+  unfolding optionOf
+  option-none a b d e f = rw (← a, ← b, ← d, ← e, ← f)
+
+  pub edition-first : true ≡ alike w (49 ∷ []) → Chosen false ≡ editionOf w
+  unfolding editionOf
+  edition-first a = rw (← a)
+
+  pub edition-second : false ≡ alike w (49 ∷ []) → true ≡ alike w (50 ∷ []) → Chosen true ≡ editionOf w
+  unfolding editionOf
+  edition-second a b = rw (← a, ← b)
+
+  pub edition-none : false ≡ alike w (49 ∷ []) → false ≡ alike w (50 ∷ []) → Unknown ≡ editionOf w
+  unfolding editionOf
+  edition-none a b = rw (← a, ← b)
+
+  pub grade-canonical : true ≡ alike w wordCanonical → Taken least.Canonical ≡ gradeOf w
+  unfolding gradeOf
+  grade-canonical a = rw (← a)
+
+  pub grade-extensions : false ≡ alike w wordCanonical → true ≡ alike w wordExtensions → Taken least.Extensions ≡ gradeOf w
+  unfolding gradeOf
+  grade-extensions a b = rw (← a, ← b)
+
+  pub grade-any : false ≡ alike w wordCanonical → false ≡ alike w wordExtensions → true ≡ alike w wordAny → Taken least.Any ≡ gradeOf w
+  unfolding gradeOf
+  grade-any a b d = rw (← a, ← b, ← d)
+
+  pub grade-none : false ≡ alike w wordCanonical → false ≡ alike w wordExtensions → false ≡ alike w wordAny → Unknown ≡ gradeOf w
+  unfolding gradeOf
+  grade-none a b d = rw (← a, ← b, ← d)
+
+  pub word-input : (names : Bool) → true ≡ alike w wordInput → Input ≡ plainOf w names
+  unfolding plainOf
   word-input names a = rw (← a)
 
-  pub word-name : (names : Bool) → false ≡ alike w wordInput → names ≡ true → File ≡ argumentOf w names
-  unfolding argumentOf
+  pub word-name : (names : Bool) → false ≡ alike w wordInput → names ≡ true → File ≡ plainOf w names
+  unfolding plainOf
   word-name names a n = rw (← a, n)
 
-  pub word-option : (names : Bool) → false ≡ alike w wordInput → names ≡ false → true ≡ dashed w → optionOf w ≡ argumentOf w names
-  unfolding argumentOf
+  pub word-option : (names : Bool) → false ≡ alike w wordInput → names ≡ false → true ≡ dashed w → optionOf w ≡ plainOf w names
+  unfolding plainOf
   word-option names a n d = rw (← a, n, ← d)
 
-  pub word-plain : (names : Bool) → false ≡ alike w wordInput → names ≡ false → false ≡ dashed w → File ≡ argumentOf w names
-  unfolding argumentOf
+  pub word-plain : (names : Bool) → false ≡ alike w wordInput → names ≡ false → false ≡ dashed w → File ≡ plainOf w names
+  unfolding plainOf
   word-plain names a n d = rw (← a, n, ← d)
 
 pub dashed-none : (w : List ℕ) → length w < 1 → false ≡ dashed w

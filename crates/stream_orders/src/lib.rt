@@ -1,32 +1,65 @@
 // What a run of a program is asked for, word by word, and frames counted by their verdict.
 ghost use mathlib.Core.Path.{_≡_};
-ghost use Rattle.stream_orders.specs.Arguments.{alike, dashed, optionOf, argumentOf, noOrders, orderedBy};
+ghost use Rattle.stream_orders.specs.Arguments.{alike, dashed, optionOf, plainOf, editionOf, gradeOf, argumentOf};
+ghost use Rattle.stream_orders.specs.Orders.{noOrders, wanting, choosing, taking, orderedBy, leastAlone, faultOf};
 ghost use Rattle.stream_orders.specs.Counting.{counted};
 
-// What an argument is: a file's name; the standard input; an option; that all that follow are names; none of these.
+// The least grade that is asked for.
+pub enum Least {
+    Unsaid,
+    Any,
+    Extensions,
+    Canonical,
+}
+
+// What an argument is: a file's name; the standard input; an option; that all that follow are names; whether it is the second edition, and a
+// least grade, behind the options that want them; none of these.
 pub enum Argument {
     File,
     Input,
     Count,
     Status,
     Names,
+    Edition,
+    Least,
+    Chosen(bool),
+    Taken(Least),
     Unknown,
 }
 
-// What the arguments so far ask for: to count, to tell the status; whether a file is named, and whether all that follow are names.
+// What the next argument has to be: anything, an edition, a grade.
+pub enum Wants {
+    Nothing,
+    Edition,
+    Grade,
+}
+
+// What the arguments so far ask for: to count, to tell the status; whether a file is named, and whether all that follow are names; whether the second
+// edition, and which least grade; and what the next one has to be.
 pub struct Orders {
     pub count: bool,
     pub status: bool,
     pub named: bool,
     pub names: bool,
+    pub second: bool,
+    pub least: Least,
+    pub wants: Wants,
+}
+
+// What is wrong with all arguments together: nothing; the last one wants an edition behind it, or a grade; a least grade without the second edition.
+pub enum Fault {
+    Nothing,
+    NoEdition,
+    NoGrade,
+    LeastAlone,
 }
 
 // The verdicts that are counted: 0 is an accepted frame, then come the numbers of refusals, then lines that are no frames.
-pub const VERDICTS: usize = 16;
+pub const VERDICTS: usize = 18;
 
-pub const LONG: usize = 14;
+pub const LONG: usize = 16;
 
-pub const HEX: usize = 15;
+pub const HEX: usize = 17;
 
 // ---- arguments
 
@@ -57,12 +90,45 @@ fn option_of(word: &[u8]) -> Argument
     if is_word(word, b"--") {
         return Argument::Names;
     }
+    if is_word(word, b"--edition") {
+        return Argument::Edition;
+    }
+    if is_word(word, b"--least") {
+        return Argument::Least;
+    }
     Argument::Unknown
 }
 
-// What a word is among the arguments; behind `--` all are names, but for `-`.
-pub fn argument_of(word: &[u8], names: bool) -> Argument
-    ensures { λ r. ⌜ r ≡ argumentOf (now (word .entry)) names ⌝ }
+fn edition_of(word: &[u8]) -> Argument
+    ensures { λ r. ⌜ r ≡ editionOf (now (word .entry)) ⌝ }
+{
+    if is_word(word, b"1") {
+        return Argument::Chosen(false);
+    }
+    if is_word(word, b"2") {
+        return Argument::Chosen(true);
+    }
+    Argument::Unknown
+}
+
+fn grade_of(word: &[u8]) -> Argument
+    ensures { λ r. ⌜ r ≡ gradeOf (now (word .entry)) ⌝ }
+{
+    if is_word(word, b"canonical") {
+        return Argument::Taken(Least::Canonical);
+    }
+    if is_word(word, b"extensions") {
+        return Argument::Taken(Least::Extensions);
+    }
+    if is_word(word, b"any") {
+        return Argument::Taken(Least::Any);
+    }
+    Argument::Unknown
+}
+
+// What a word is that no option wants; behind `--` all are names, but for `-`.
+fn plain_of(word: &[u8], names: bool) -> Argument
+    ensures { λ r. ⌜ r ≡ plainOf (now (word .entry)) names ⌝ }
 {
     if is_word(word, b"-") {
         return Argument::Input;
@@ -74,6 +140,66 @@ pub fn argument_of(word: &[u8], names: bool) -> Argument
         return option_of(word);
     }
     Argument::File
+}
+
+// What a word is among the arguments.
+pub fn argument_of(word: &[u8], names: bool, wants: Wants) -> Argument
+    ensures { λ r. ⌜ r ≡ argumentOf (now (word .entry)) names wants ⌝ }
+{
+    match wants {
+        Wants::Nothing => plain_of(word, names),
+        Wants::Edition => edition_of(word),
+        Wants::Grade => grade_of(word),
+    }
+}
+
+// ---- orders
+
+// The same, but that the next argument has to be something.
+fn want(o: Orders, wants: Wants) -> Orders
+    ensures { λ r. ⌜ r ≡ wanting o wants ⌝ }
+{
+    let least = o.least;
+    Orders {
+        count: o.count,
+        status: o.status,
+        named: o.named,
+        names: o.names,
+        second: o.second,
+        least: least,
+        wants: wants,
+    }
+}
+
+// The same by an edition.
+fn choose(o: Orders, second: bool) -> Orders
+    ensures { λ r. ⌜ r ≡ choosing o second ⌝ }
+{
+    let least = o.least;
+    Orders {
+        count: o.count,
+        status: o.status,
+        named: o.named,
+        names: o.names,
+        second: second,
+        least: least,
+        wants: Wants::Nothing,
+    }
+}
+
+// The same with a least grade.
+fn take(o: Orders, least: Least) -> Orders
+    ensures { λ r. ⌜ r ≡ taking o least ⌝ }
+{
+    Orders {
+        count: o.count,
+        status: o.status,
+        named: o.named,
+        names: o.names,
+        second: o.second,
+        least: least,
+        wants: Wants::Nothing,
+    }
 }
 
 // What the arguments ask for with one more.
@@ -97,6 +223,18 @@ pub fn ordered(o: Orders, a: Argument) -> Orders
         Argument::Names => {
             r.names = true;
         }
+        Argument::Edition => {
+            return want(o, Wants::Edition);
+        }
+        Argument::Least => {
+            return want(o, Wants::Grade);
+        }
+        Argument::Chosen(second) => {
+            return choose(o, second);
+        }
+        Argument::Taken(least) => {
+            return take(o, least);
+        }
         Argument::Unknown => {}
     }
     r
@@ -111,6 +249,37 @@ pub fn no_orders() -> Orders
         status: false,
         named: false,
         names: false,
+        second: false,
+        least: Least::Unsaid,
+        wants: Wants::Nothing,
+    }
+}
+
+// Whether a least grade is asked for without the second edition, which alone has grades.
+fn is_alone(second: bool, least: Least) -> Fault
+    ensures { λ r. ⌜ r ≡ leastAlone second least ⌝ }
+{
+    if second {
+        return Fault::Nothing;
+    }
+    match least {
+        Least::Unsaid => Fault::Nothing,
+        Least::Any => Fault::LeastAlone,
+        Least::Extensions => Fault::LeastAlone,
+        Least::Canonical => Fault::LeastAlone,
+    }
+}
+
+// What is wrong with the arguments, once there are no more.
+pub fn fault_of(o: Orders) -> Fault
+    ensures { λ r. ⌜ r ≡ faultOf o ⌝ }
+{
+    let least = o.least;
+    let wants = o.wants;
+    match wants {
+        Wants::Edition => Fault::NoEdition,
+        Wants::Grade => Fault::NoGrade,
+        Wants::Nothing => is_alone(o.second, least),
     }
 }
 

@@ -5,10 +5,10 @@ use Rattle.stream.proofs.open_all.Statement.{statement}
 use Rattle.stream.proofs.open_all.Tie as tie
 
 abbrev Inv-loop : tie.InvT-loop
-Inv-loop program files count o₀ i₀ o i = Unit {0}
+Inv-loop program files editions count o₀ i₀ o i = Unit {0}
 
 abbrev μ-loop : tie.MeasureT-loop
-μ-loop program files count o₀ i₀ o i = count - i
+μ-loop program files editions count o₀ i₀ o i = count - i
 
 arg-count-requires : tie.Need-arg-count-requires Inv-loop μ-loop
 arg-count-requires c κs = search needs
@@ -25,8 +25,8 @@ argument-at-requires c κs = search needs
 is-unknown-requires : tie.Need-is-unknown-requires Inv-loop μ-loop
 is-unknown-requires c κs = search needs
 
-refuse-option-requires : tie.Need-refuse-option-requires Inv-loop μ-loop
-refuse-option-requires c κs = search needs
+refuse-word-requires : tie.Need-refuse-word-requires Inv-loop μ-loop
+refuse-word-requires c κs = search needs
 
 returns : tie.Need-returns Inv-loop μ-loop
 returns c = search needs
@@ -43,14 +43,20 @@ loop-less c = search needs
 loop-again : tie.Need-loop-again Inv-loop μ-loop
 loop-again c = search needs
 
-refuse-number-requires : tie.Need-refuse-number-requires Inv-loop μ-loop
-refuse-number-requires c κs = search needs
+fault-of-requires : tie.Need-fault-of-requires Inv-loop μ-loop
+fault-of-requires c κs = search needs
+
+is-good-requires : tie.Need-is-good-requires Inv-loop μ-loop
+is-good-requires c κs = search needs
+
+refuse-all-requires : tie.Need-refuse-all-requires Inv-loop μ-loop
+refuse-all-requires c κs = search needs
 
 returns-2 : tie.Need-returns-2 Inv-loop μ-loop
 returns-2 c = search needs
 
-open-files-requires : tie.Need-open-files-requires Inv-loop μ-loop
-open-files-requires c κs = search needs
+open-orders-requires : tie.Need-open-orders-requires Inv-loop μ-loop
+open-orders-requires c κs = search needs
 
 same-length : tie.Need-same-length Inv-loop μ-loop
 same-length c = search needs
@@ -69,14 +75,16 @@ open-all-spec =
     loop-holds
     argument-at-requires
     is-unknown-requires
-    refuse-option-requires
+    refuse-word-requires
     returns
     ordered-requires
     add-i
     loop-less
     loop-again
-    refuse-number-requires
+    fault-of-requires
+    is-good-requires
+    refuse-all-requires
     returns-2
-    open-files-requires
+    open-orders-requires
     same-length
     returns-3)

@@ -1,5 +1,5 @@
 -- `stream_orders::option_of` meets its contract.
-use Rattle.stream_orders.specs.Arguments.{option-count, option-status, option-names, option-none}
+use Rattle.stream_orders.specs.Arguments.{option-count, option-status, option-names, option-edition, option-least, option-none}
 use borrow.Author.Needs.{needs}
 use Rattle.stream_orders.proofs.option_of.Statement.{statement}
 use Rattle.stream_orders.proofs.option_of.Tie as tie
@@ -31,8 +31,26 @@ is-word-requires-3 c κs = search needs
 returns-3 : tie.Need-returns-3
 returns-3 c = option-names _ (cc) (cc) (cc)
 
+slice-aggregate-is-word-4 : tie.Need-slice-aggregate-is-word-4
+slice-aggregate-is-word-4 c = search needs
+
+is-word-requires-4 : tie.Need-is-word-requires-4
+is-word-requires-4 c κs = search needs
+
 returns-4 : tie.Need-returns-4
-returns-4 c = option-none _ (cc) (cc) (cc)
+returns-4 c = option-edition _ (cc) (cc) (cc) (cc)
+
+slice-aggregate-is-word-5 : tie.Need-slice-aggregate-is-word-5
+slice-aggregate-is-word-5 c = search needs
+
+is-word-requires-5 : tie.Need-is-word-requires-5
+is-word-requires-5 c κs = search needs
+
+returns-5 : tie.Need-returns-5
+returns-5 c = option-least _ (cc) (cc) (cc) (cc) (cc)
+
+returns-6 : tie.Need-returns-6
+returns-6 c = option-none _ (cc) (cc) (cc) (cc) (cc)
 
 pub option-of-spec : {M : Type 1} → statement M
 option-of-spec =
@@ -47,4 +65,10 @@ option-of-spec =
     slice-aggregate-is-word-3
     is-word-requires-3
     returns-3
-    returns-4)
+    slice-aggregate-is-word-4
+    is-word-requires-4
+    returns-4
+    slice-aggregate-is-word-5
+    is-word-requires-5
+    returns-5
+    returns-6)
