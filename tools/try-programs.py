@@ -1,7 +1,8 @@
 #!/usr/bin/env python3
 """What tools/try-programs.sh looks at with more than a shell. Each prints one line: what was found, or what is wrong.
 
-    try-programs.py rows TABLE COUNTS FRAMES     the table of `soundings` through a reader of CSV; COUNTS is what --count said, FRAMES the input;
+    try-programs.py rows TABLE COUNTS FRAMES EDITION
+                                                 the table of `soundings` through a reader of CSV; COUNTS is what --count said, FRAMES the input;
                                                  the standard input has the refusals, a number and a name a line
     try-programs.py short NAME INPUT OUTPUT      a run whose writes are cut short; OUTPUT gets what came out
     try-programs.py examples NAME FILE           the examples of a text, each run
@@ -19,13 +20,17 @@ from shown import shown
 
 root = os.path.dirname(os.path.dirname(os.path.abspath(__file__)))
 NAMES = ["frame", "station", "launch", "level", "pressure_pa", "temperature_c", "dewpoint_depression_c", "refusal"]
+SECOND = ["wind_speed_ms", "wind_direction_deg", "grade"]
+GRADES = ["Canonical", "HasExtensions", "NotCanonical"]
 
 
-def rows(table, counts, frames):
+def rows(table, counts, frames, edition):
     refusals = {name: "NO " + number for number, name in (line.split() for line in sys.stdin)}
+    wanted = NAMES[:-1] + (SECOND if edition == "2" else []) + NAMES[-1:]
+    grades = GRADES if edition == "2" else [None]
     with open(table, newline="") as f:
         names, *body = csv.reader(f, strict=True)
-    if names != NAMES:
+    if names != wanted:
         return f"the first row is {names}"
     frame_of, kinds, counted = {}, set(), {}
     for row in body:
@@ -41,16 +46,18 @@ def rows(table, counts, frames):
         if first["refusal"]:
             kind = first["refusal"] if first["refusal"] in ("LONG", "HEX") else "refused"
             verdict = refusals.get(first["refusal"], first["refusal"])
-            right = len(of) == 1 and not any(first[x] for x in NAMES[1:-1]) and (kind != "refused" or first["refusal"] in refusals)
+            right = len(of) == 1 and not any(first[x] for x in wanted[1:-1]) and (kind != "refused" or first["refusal"] in refusals)
         elif first["level"]:
             kind, verdict = "levels", "OK"
             right = all(
                 row["level"] == str(i + 1) and row["pressure_pa"] and not row["refusal"] and all(row[x] == first[x] != "" for x in ("station", "launch"))
+                and row.get("grade") == first.get("grade") in grades
                 for i, row in enumerate(of)
             )
         else:
             kind, verdict = "no level", "OK"
-            right = len(of) == 1 and first["station"] and first["launch"] and not any(first[x] for x in NAMES[3:])
+            right = len(of) == 1 and first["station"] and first["launch"] and first.get("grade") in grades
+            right = right and not any(first[x] for x in wanted[3:] if x != "grade")
         if not right:
             return f"frame {n} has the rows {of}"
         kinds.add(kind)

@@ -93,7 +93,7 @@ try_failures() {
     run <&-
     try 'no standard input' 1 "$begin" "$name: standard input: Bad file descriptor"
     run --wrong "$room/missing"
-    try 'an unknown option' 2 "" "$name: there is no option --wrong${lf}usage: $name [--count] [FILE..]"
+    try 'an unknown option' 2 "" "$name: there is no option --wrong$lf$usage"
     run -x
     is 'an unknown letter: status' 2 "$status"
     err=$("./$name" "$room/a" 2>&1 >/dev/full)
@@ -182,15 +182,28 @@ try_lines() {
 # The table through a reader of CSV: rows of every kind, each with the cells of the first row; no frame is missing; and the counts are the same.
 try_rows() {
     [ "$name" = soundings ] || return
-    for frames in crates/soundings/stdin examples/rows.hex examples/iced.hex; do
-        run --count "$frames"
+    for frames in crates/soundings/stdin examples/rows.hex examples/iced.hex examples/winds.hex; do
         case $frames in
         */stdin) kinds='HEX, LONG, levels, no level, refused' ;;
         */rows.hex) kinds='HEX, levels, no level, refused' ;;
-        */iced.hex) kinds=levels ;;
+        *) kinds=levels ;;
         esac
-        is "$frames as CSV" "$kinds" "$( (. tools/program-text.sh; refusals) | python3 tools/try-programs.py rows "$room/out" "$room/err" "$frames" 2>&1)"
+        for edition in 1 2; do
+            run --count --edition "$edition" "$frames"
+            is "$frames as CSV, edition $edition" "$kinds" \
+                "$( (. tools/program-text.sh; refusals) | python3 tools/try-programs.py rows "$room/out" "$room/err" "$frames" "$edition" 2>&1)"
+        done
     done
+}
+
+# The second edition: its table, the least grade, the counts, and what is refused before anything is read.
+try_editions() {
+    [ "$name" = soundings ] || { run --edition 2 "$room/a"; try 'no editions' 2 "" "$name: there is no option --edition$lf$usage"; return; }
+    begin2=$(printf '%s' "$begin" | sed 's/,refusal$/,wind_speed_ms,wind_direction_deg,grade,refusal/')$lf
+    windy="1,10410,1700000060,1,85000,8.4,2.1,6.2,240,Canonical,$lf" # PLACEHOLDER
+    run --edition 1 examples/winds.hex
+    is 'the first edition: status' 0 "$status"
+    is 'the first edition: output' "$(./soundings examples/winds.hex | cksum)" "$(cksum <"$room/out")"
 }
 
 # The first run on a terminal says what it does, crate by crate. A run after it says nothing.
@@ -239,8 +252,13 @@ for name in ${*:-dump soundings}; do
     begin=$(head_of; echo .)
     begin=${begin%.}
     skip=$(printf '%s' "$begin" | wc -l)
+    case $name in
+    dump) usage="usage: dump [--count] [FILE..]" ;;
+    soundings) usage="usage: soundings [--count] [--edition 1|2] [--least canonical|extensions|any] [FILE..]" ;;
+    esac
     try_lines
     try_rows
+    try_editions
     try_files
     try_failures
     try_closed_pipe

@@ -1,4 +1,4 @@
--- What a line is counted as: 0 for an accepted frame, the number of its refusal, 14 for LONG and 15 for HEX.
+-- What a line is counted as: 0 for an accepted frame, the number of its refusal, 16 for LONG and 17 for HEX.
 use Prim.Native.Nat.{ℕ}
 use mathlib.Core.Path.{_≡_}
 use mathlib.Core.List.{List}
@@ -22,8 +22,8 @@ messageVerdict s table = readVerdict (readEntry s 0 (length s) table .answer)
 
 abbrev pub frameVerdict : Frame → List ℕ → List ℕ → ℕ
 frameVerdict (Bytes k) bytes table = messageVerdict (take k bytes) table
-frameVerdict Long bytes table = 14
-frameVerdict Hex bytes table = 15
+frameVerdict Long bytes table = 16
+frameVerdict Hex bytes table = 17
 
 unfoldable pub verdictOf : List ℕ → ℕ → List ℕ → List ℕ → ℕ
 verdictOf line chars bytes table = frameVerdict (frameOf line chars bytes .answer) (frameOf line chars bytes .out) table
