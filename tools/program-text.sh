@@ -26,22 +26,38 @@ what_soundings() {
 Prints a table (CSV). A line is a frame in hex, and has a row for each level of
 its sounding, or one row: with no level if it has none, with the name of the
 refusal if it is refused, HEX if it is not hexadecimal, LONG if it has more than
-4096 characters. A value that is missing is an empty cell. The columns:
-  frame,station,launch,level,pressure_pa,temperature_c,dewpoint_depression_c,
-  refusal
+4096 characters. A value that is missing is an empty cell. The columns: frame,
+station, launch, level, pressure_pa, temperature_c, dewpoint_depression_c, in
+the second edition wind_speed_ms, wind_direction_deg and grade, refusal.
 Example:
-  $ soundings examples/rows.hex | tail -n 3
-  2,10410,1700000120,,,,,
+  $ soundings examples/rows.hex | tail -n 2
   3,,,,,,,Repeated
   4,,,,,,,HEX
 END
 }
 
+# the options that only some programs have
+options_dump() { :; }
+
+options_soundings() {
+    cat <<'END'
+  --edition 1|2    reads by the first edition, as without it, or by the second
+  --least GRADE    with --edition 2: refuses soundings below canonical,
+                   extensions or any; any, as without it, refuses none
+END
+}
+
 help() {
-    printf 'usage: %s [--count] [FILE..]\n' "$1"
+    case $1 in
+    dump) printf 'usage: dump [--count] [FILE..]\n' ;;
+    soundings) printf 'usage: soundings [--count] [--edition 1|2] [--least GRADE] [FILE..]\n' ;;
+    esac
     "what_$1"
     cat <<'END'
 Files are read one behind the other; none, or -, is the standard input.
+END
+    "options_$1"
+    cat <<'END'
   --count    says at the end on standard error how many frames there were
   --version  prints the version and the toolchain;  --help  prints this
   --         all that follows are names of files
