@@ -126,6 +126,7 @@ pub use Rattle.sounding_wind.proofs.Only.{read-windy-one as wind-read-windy-one
 pub use Rattle.sounding_graded.proofs.Only.{read-graded-one as graded-read-graded-one}
 -- soundings as text
 pub use Rattle.sounding_text.proofs.Only.{put-sounding-one as columns-put-sounding-one}
+pub use Rattle.sounding_text.proofs.Only.{put-edition-one as columns-put-edition-one}
 -- the face for C
 pub use Rattle.c_words.proofs.Only.{typed-of-one as c-typed-of-one}
 pub use Rattle.c_words.proofs.Only.{put-words-one as c-put-words-one}
@@ -177,6 +178,7 @@ pub use Rattle.capgauze_c.proofs.Only.{read-graded-one as c-read-graded-one}
 pub use Rattle.stream_orders.proofs.Only.{argument-of-one as stream-argument-of-one}
 pub use Rattle.stream_orders.proofs.Only.{no-orders-one as stream-no-orders-one}
 pub use Rattle.stream_orders.proofs.Only.{ordered-one as stream-ordered-one}
+pub use Rattle.stream_orders.proofs.Only.{fault-of-one as stream-fault-of-one}
 pub use Rattle.stream_orders.proofs.Only.{count-one-one as stream-count-one-one}
 pub use Rattle.correct_supply.proofs.Only.{supply-of-one, corrected-by-one, corrected-part-one}
 pub use Rattle.correct_write.proofs.Only.{write-corrected-one}
