@@ -197,13 +197,62 @@ try_rows() {
 }
 
 # The second edition: its table, the least grade, the counts, and what is refused before anything is read.
+refused_words() { # WHAT ERROR ARGUMENT..
+    what=$1 said=$2
+    shift 2
+    run "$@"
+    try "$what" 2 "" "$name: $said$lf$usage"
+}
+
 try_editions() {
-    [ "$name" = soundings ] || { run --edition 2 "$room/a"; try 'no editions' 2 "" "$name: there is no option --edition$lf$usage"; return; }
-    begin2=$(printf '%s' "$begin" | sed 's/,refusal$/,wind_speed_ms,wind_direction_deg,grade,refusal/')$lf
-    windy="1,10410,1700000060,1,85000,8.4,2.1,6.2,240,Canonical,$lf" # PLACEHOLDER
-    run --edition 1 examples/winds.hex
-    is 'the first edition: status' 0 "$status"
-    is 'the first edition: output' "$(./soundings examples/winds.hex | cksum)" "$(cksum <"$room/out")"
+    if [ "$name" != soundings ]; then
+        refused_words 'no editions' 'there is no option --edition' --edition 2 "$room/a"
+        refused_words 'no grades' 'there is no option --least' --least any "$room/a"
+        return
+    fi
+    second=${begin%refusal*}wind_speed_ms,wind_direction_deg,grade,refusal$lf
+    good='1,10410,1700000060,1,92500,8.4,2.1,6.2,240,Canonical,
+1,10410,1700000060,2,70000,-2.7,4.8,14.9,255,Canonical,
+1,10410,1700000060,3,50000,-17.3,12.0,27.0,270,Canonical,
+'
+    iced='2,10410,1700043260,1,92500,6.1,1.2,5.5,225,NotCanonical,
+2,10410,1700043260,2,70000,-4.4,0.9,13.1,,NotCanonical,
+'
+    other='3,10410,1700086460,1,92500,5.5,3.0,4.8,210,HasExtensions,
+3,10410,1700086460,2,70000,-5.1,6.2,9.7,228,HasExtensions,
+'
+    run --edition 2 examples/winds.hex
+    try 'the second edition' 0 "$second$good$iced$other" ''
+    run --least any --edition 1 --edition 2 --count examples/winds.hex
+    try 'any grade, the last edition of two' 0 "$second$good$iced$other" "3 frames${lf}3 OK"
+    run --edition 2 --least extensions --count examples/winds.hex
+    try 'a least grade' 0 "$second${good}2,,,,,,,,,,NotCanonical$lf$other" "3 frames${lf}2 OK${lf}1 NO 14"
+    run --least canonical --edition 2 --count - <examples/winds.hex
+    try 'the highest least grade' 0 "$second${good}2,,,,,,,,,,NotCanonical${lf}3,,,,,,,,,,UnknownField$lf" "3 frames${lf}1 OK${lf}1 NO 14${lf}1 NO 15"
+    { head -c 4098 /dev/zero | tr '\0' 0; printf '\n0g\n04\n000904010400\n04010400050504640CD10E\n'; } >"$room/kinds"
+    run --edition 2 --count "$room/kinds"
+    try 'rows of every kind' 0 "${second}1,,,,,,,,,,LONG${lf}2,,,,,,,,,,HEX${lf}3,,,,,,,,,,Truncated${lf}4,1,0,,,,,,,HasExtensions,${lf}5,,,,,,,,,,OutOfRange$lf" \
+        "5 frames${lf}1 OK${lf}1 NO 1${lf}1 NO 10${lf}1 LONG${lf}1 HEX"
+    for words in '' '--edition 1'; do
+        run $words "$room/kinds" examples/winds.hex
+        is "the first edition ($words): rows" 12 "$(sed 1d "$room/out" | wc -l)"
+        is "the first edition ($words): cells" 8 "$(awk -F, '{ print NF }' "$room/out" | sort -u)"
+    done
+    { printf 0401040005020464; for ((i = 1; i < 511; i++)); do printf 01020464; done; echo; } >"$room/levels"
+    yes "$(cat "$room/levels")" | head -n 20 >"$room/longest"
+    for edition in 1 2; do
+        run --edition "$edition" "$room/longest"
+        is "the longest frames, edition $edition: rows" $((1 + 20 * 511)) "$(wc -l <"$room/out")"
+    done
+    run --edition 2 <"$room/none"
+    try 'the second edition of nothing' 0 "$second" ''
+    refused_words 'an unknown edition' 'there is no edition 3' --edition 3 "$room/missing"
+    refused_words 'a dash for an edition' 'there is no edition -' --edition -
+    refused_words 'an unknown grade' 'there is no grade Canonical' --edition 2 --least Canonical
+    refused_words 'no edition' 'behind --edition there has to be 1 or 2' "$room/a" --edition
+    refused_words 'no grade' 'behind --least there has to be canonical, extensions or any' --edition 2 --least
+    refused_words 'a grade without an edition' '--least is for --edition 2' --least any "$room/a"
+    refused_words 'a grade for the first edition' '--least is for --edition 2' --least canonical --edition 2 --edition 1
 }
 
 # The first run on a terminal says what it does, crate by crate. A run after it says nothing.
