@@ -1,9 +1,8 @@
 #!/bin/sh
-# Makes libcapgauze.so beside this file, for capgauze.py, of the proved archive.
+# Builds the package's extension beside its sources, of the proved archive or of an installed libcapgauze, so that Python finds the
+# package with PYTHONPATH=bindings/python. PYTHON is one that has cffi and setuptools.
 set -eu
-here=$(cd "$(dirname "$0")" && pwd)
-root=$here/../..
-. "$root/tools/x86-64.sh"
-archive
-$CC -shared -o "$here/libcapgauze.so" -Wl,--whole-archive "$CAPGAUZE_ARCHIVE" -Wl,--no-whole-archive -Wl,-z,defs
-echo "made bindings/python/libcapgauze.so"
+cd "$(dirname "$0")"
+"${PYTHON:-/usr/bin/python3}" setup.py --quiet build_ext --inplace --build-temp "${TMPDIR:-/tmp}/capgauze-build.$$"
+rm -rf "${TMPDIR:-/tmp}/capgauze-build.$$"
+echo "built bindings/python/capgauze"

@@ -4,7 +4,6 @@
 Prints each case that is answered otherwise, then how many there were. It knows no rule of a message: it calls, and
 compares numbers.
 """
-import ctypes
 import os
 import sys
 from array import array
@@ -73,7 +72,7 @@ class Replay:
             self.table.extend(words[0] * words[1:])
 
     def lent_table(self):
-        return room(self.table, ctypes.c_uint64)
+        return room(self.table, 8)
 
     def read(self, name, summed=False):
         def answer(*asked):

@@ -1,9 +1,14 @@
 #!/bin/sh
-# Makes the shared object and runs the module's tests, the fixed list among them. PYTHON is an x86-64 one.
+# Builds the package and runs its tests. PYTHON is one that has cffi, pytest and hypothesis, and what else is to be tried; words behind are pytest's.
 set -eu
 here=$(cd "$(dirname "$0")" && pwd)
 root=$here/../..
-. "$root/tools/x86-64.sh"
+PYTHON=${PYTHON:-/usr/bin/python3}
+export PYTHON
+if [ ! -f "${CAPGAUZE_ARCHIVE:-$root/target/staticlib/libcapgauze_c.a}" ] && ! pkg-config --exists capgauze 2>/dev/null; then
+    . "$root/tools/x86-64.sh"
+    archive
+fi
 "$here/build.sh"
 cd "$here"
-$RUN "${PYTHON:-python3}" -m unittest --quiet
+exec "$PYTHON" -m pytest "$@"

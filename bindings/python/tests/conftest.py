@@ -1,0 +1,6 @@
+"""The package and what lies beside it are found from here, installed or not; the examples of its text are tests too."""
+import pathlib
+import sys
+
+HERE = pathlib.Path(__file__).resolve().parent
+sys.path[:0] = [str(HERE), str(HERE.parent)]
