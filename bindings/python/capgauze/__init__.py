@@ -27,10 +27,12 @@ from __future__ import annotations
 
 from ._declared import GRADED_WORDS, INDEX_WORDS, LEVEL_WORDS, LIMIT, NO_KEY, RECORD_WORDS, Grade, Refusal, Supplier, WireType
 from ._library import call, lent, room, words
+from .arrays import Levels, dataframe, dataset, levels
 from .answers import (Early, Entry, Graded, GradedHead, Head, Key, Level, Parts, Picked, Read, Record, Several, Sounding, Step, Value,
                       Varint, Windy, Written)
 from .copies import WorkingCopy, insert_payload, remove_record, replace_payload
 from .corrections import CORRECTION, ORIGINAL, corrected, corrected_by, corrected_part, write_corrected
+from .stream import frames, soundings
 from .index import Index, index_fits, make_index, pick_indexed, read_line, write_line
 from .messages import (encode_message, field_bytes, field_parts, insert, message, payload_of, pick, pick_at, pick_early, prepend_message,
                        read_message, read_payload, records)
@@ -38,7 +40,7 @@ from .parts import (decode_key, decode_value, decode_varint, decode_varint_cappe
                     i64_to_unsigned, key_len, prepend_key, prepend_varint, skip_field, step_at, u64_to_signed)
 from .refusals import NAMES, NotHexadecimal, Refused
 from .runs import pack, read_run, run_count, run_value, unpack, write_run
-from .sounding import CANONICAL, HAS_EXTENSIONS, NOT_CANONICAL, graded, read_graded, read_sounding, sounding
+from .editions import CANONICAL, HAS_EXTENSIONS, NOT_CANONICAL, graded, read_graded, read_sounding, sounding
 
 VARINT, LENGTH_DELIMITED = WireType.VARINT, WireType.LENGTH_DELIMITED
 THIRTY_TWO_BIT, SIXTY_FOUR_BIT = WireType.THIRTY_TWO_BIT, WireType.SIXTY_FOUR_BIT

@@ -2,5 +2,10 @@
 import pathlib
 import sys
 
+from hypothesis import settings
+
 HERE = pathlib.Path(__file__).resolve().parent
 sys.path[:0] = [str(HERE), str(HERE.parent)]
+
+settings.register_profile("capgauze", deadline=None)
+settings.load_profile("capgauze")
