@@ -129,7 +129,7 @@ def soundings(source: Source, edition: int = 1, least: Optional[int] = None) -> 
     HEX: the line is not hexadecimal
     """
     taken = least_of(edition, least)
-    read: Callable[[bytes], Any] = sounding if edition == 1 else partial(graded, least=taken)
+    read: Callable[[bytes], Any] = sounding if edition == 1 else partial(graded, least=taken)  # type: ignore[assignment]
     found: Iterator[Any] = (_read(frame, read) for frame in frames(source))
     return found
 

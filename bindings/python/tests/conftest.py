@@ -7,5 +7,5 @@ from hypothesis import settings
 HERE = pathlib.Path(__file__).resolve().parent
 sys.path[:0] = [str(HERE), str(HERE.parent)]
 
-settings.register_profile("capgauze", deadline=None)
+settings.register_profile("capgauze", deadline=None, max_examples=60)
 settings.load_profile("capgauze")

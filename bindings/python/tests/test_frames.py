@@ -4,6 +4,7 @@ import os
 import threading
 
 import numpy as np
+import pandas
 import pytest
 from hypothesis import given
 from hypothesis import strategies as st
@@ -111,7 +112,7 @@ class TestTables:
             least = least if edition == 2 else None
             table = capgauze.dataframe(some, edition, least)
             wanted = list(rows_of(capgauze.soundings(some, edition, least), edition))
-            got = [tuple(None if value is None or value != value or str(value) == "<NA>" else value for value in row)
+            got = [tuple(None if pandas.isna(value) else value for value in row)
                    for row in table.astype(object).itertuples(index=False)]
             assert got == wanted
             assert list(table["frame"].unique()) == list(range(1, len(some) + 1))
