@@ -4,7 +4,6 @@ from __future__ import annotations
 import binascii
 import io
 import os
-from functools import partial
 from typing import Any, BinaryIO, Callable, Iterable, Iterator, Literal, Optional, Union, overload
 
 from ._declared import LIMIT, Grade, Refusal
@@ -128,16 +127,23 @@ def soundings(source: Source, edition: int = 1, least: Optional[int] = None) -> 
     Truncated (1)
     HEX: the line is not hexadecimal
     """
+    return map(reader(edition, least), frames(source))
+
+
+def reader(edition: int = 1, least: Optional[int] = None) -> Callable[[Frame], Any]:
+    """What makes of a frame its sounding, or its refusal.
+
+    >>> reader()(b"\\x04")
+    Refused('Truncated (1)')
+    """
     taken = least_of(edition, least)
-    read: Callable[[bytes], Any] = sounding if edition == 1 else partial(graded, least=taken)  # type: ignore[assignment]
-    found: Iterator[Any] = (_read(frame, read) for frame in frames(source))
-    return found
 
+    def read(frame: Frame) -> Union[Sounding, Graded, Refused]:
+        try:
+            if isinstance(frame, Refused):
+                return frame
+            return sounding(frame) if edition == 1 else graded(frame, taken)
+        except Refused as refused:
+            return refused.with_traceback(None)
 
-def _read(frame: Frame, read: Callable[[bytes], Any]) -> Any:
-    if isinstance(frame, Refused):
-        return frame
-    try:
-        return read(frame)
-    except Refused as refused:
-        return refused.with_traceback(None)
+    return read

@@ -1,6 +1,7 @@
 """Messages and soundings by chance, good and damaged."""
 from __future__ import annotations
 
+from itertools import accumulate
 from typing import Any
 
 from hypothesis import strategies as st
@@ -62,7 +63,7 @@ def level_fields(draw: Any, edition: int = 2) -> dict[int, int]:
 def sounding_of(station: int, launch: int, levels: list[dict[int, int]]) -> bytes:
     """The message of a sounding whose levels have these numbers by their tags."""
     parts = [capgauze.message([(tag, 0, number, 0) for tag, number in sorted(level.items())]) for level in levels]
-    starts = [sum(map(len, parts[:i])) for i in range(len(parts))]
+    starts = accumulate(map(len, parts), initial=0)
     records = [(1, 0, station, 0), (2, 0, launch, 0), *((3, 1, start, len(part)) for start, part in zip(starts, parts))]
     return capgauze.message(records, b"".join(parts))
 

@@ -1,0 +1,6 @@
+"""python -m capgauze"""
+import sys
+
+from .cli import main
+
+sys.exit(main())
