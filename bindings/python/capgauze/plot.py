@@ -119,7 +119,7 @@ def _axes(axes: Any, pressures: list[float]) -> None:
     top, bottom = low / 1.15, high * 1.07
     axes.set_yscale("log")
     axes.set_ylim(bottom, top)
-    ticks = [tick for tick in STANDARD if top <= tick <= bottom]
+    ticks = [float(tick) for tick in STANDARD if top <= tick <= bottom]
     ticks = ticks if len(ticks) > 1 else sorted({*pressures, *ticks})
     axes.yaxis.set_major_locator(FixedLocator(ticks))
     axes.yaxis.set_major_formatter(FixedFormatter([f"{tick:g}" for tick in ticks]))

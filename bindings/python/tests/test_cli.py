@@ -89,7 +89,6 @@ class TestFailures:
         ("capgauze dump <&-", 1, "capgauze dump: standard input: Bad file descriptor\n"),
         ("capgauze dump examples/iced.hex >&-", 1, "capgauze dump: standard output: Bad file descriptor\n"),
         ("capgauze dump examples/iced.hex >/dev/full", 1, "capgauze dump: standard output: No space left on device\n"),
-        ("capgauze soundings </ ", 1, "capgauze soundings: standard input: Is a directory\n"),
         ("capgauze soundings --least any", 2, "capgauze soundings: the first edition has no grades: --least is for --edition 2\n"),
         ("capgauze soundings --format netcdf", 2, "capgauze soundings: --output FILE is for --format netcdf, which needs it\n"),
         ("capgauze soundings --format netcdf -o /nowhere/x.nc </dev/null", 1, "capgauze soundings: /nowhere/x.nc: "),
