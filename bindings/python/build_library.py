@@ -8,6 +8,7 @@ from __future__ import annotations
 
 import os
 import pathlib
+import re
 import subprocess
 import sys
 from typing import NamedTuple
@@ -68,10 +69,15 @@ def declared_text(declared: header.Declared) -> str:
         name, prefix = ENUMS[first]
         lines += ["", "", f"class {name}(Number):"]
         lines += [f"    {member.removeprefix(prefix)} = {number}" for member, number in enum.members.items()]
-        meanings = {member.removeprefix(prefix): said for member, said in enum.meanings.items()}
+        meanings = {member.removeprefix(prefix): _in_numbers(said, declared) for member, said in enum.meanings.items()}
         lines += ["", "", f"{name.upper()}_MEANINGS: dict[str, str] = {{"]
         lines += [f"    {member!r}: {said!r}," for member, said in meanings.items()] + ["}"]
     return "\n".join(lines) + "\n"
+
+
+def _in_numbers(said: str, declared: header.Declared) -> str:
+    """A comment with numbers where it names a macro."""
+    return re.sub(r"\bCAPGAUZE_\w+", lambda found: f"{declared.numbers[found[0]]:,}" if found[0] in declared.numbers else found[0], said)
 
 
 def version() -> str:

@@ -40,9 +40,9 @@ def parts_of(paths: Union[str, os.PathLike[str], Sequence[Any]], blocksize: Unio
         found = sorted(glob.glob(name)) if glob.has_magic(name) else [name]
         if not found:
             raise FileNotFoundError(f"no file is called {name}")
-        for path in map(os.path.abspath, found):
+        for path in found:
             length = os.stat(path).st_size
-            out += [Part(path, start, min(start + size, length)) for start in range(0, length, size)]
+            out += [Part(os.path.abspath(path), start, min(start + size, length)) for start in range(0, length, size)]
     return out
 
 

@@ -59,7 +59,8 @@ class TestDamaged:
         assert "and there are none" in explain(1, bytes.fromhex("0503"))
         assert explain(1, b"") == "frame 1: 0 bytes, 0 fields\n"
         assert "HEX: the line is not hexadecimal" in explain(3, capgauze.NotHexadecimal())
-        assert f"above CAPGAUZE_LIMIT" in explain(1, bytes(capgauze.LIMIT + 1)) and "TooLong (4)" in explain(1, capgauze.Refused(Refusal.TOO_LONG))
+        assert explain(1, bytes(capgauze.LIMIT + 1)) == explain(1, capgauze.Refused(Refusal.TOO_LONG))
+        assert "TooLong (4): slice, or bytes to be written, above 1,048,575" in explain(1, capgauze.Refused(Refusal.TOO_LONG))
 
 
 def test_a_message():
