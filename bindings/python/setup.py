@@ -7,4 +7,5 @@ from setuptools import setup
 sys.path.insert(0, str(pathlib.Path(__file__).resolve().parent))
 import build_library  # noqa: E402
 
-setup(version=build_library.version(), cffi_modules=["build_library.py:make"])
+setup(version=build_library.version(), packages=["capgauze", "capgauze.cli"], package_data={"capgauze": ["py.typed"]}, zip_safe=False,
+      cffi_modules=["build_library.py:make"])

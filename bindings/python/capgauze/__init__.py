@@ -25,8 +25,8 @@ pandas, `dataset` as one of xarray; capgauze.dask reads archives of many files, 
 """
 from __future__ import annotations
 
+from ._library import call, lent, room, words  # the first, since it says what is not built
 from ._declared import GRADED_WORDS, INDEX_WORDS, LEVEL_WORDS, LIMIT, NO_KEY, RECORD_WORDS, Grade, Refusal, Supplier, WireType
-from ._library import call, lent, room, words
 from .arrays import Levels, dataframe, dataset, levels
 from .answers import (Early, Entry, Graded, GradedHead, Head, Key, Level, Parts, Picked, Read, Record, Several, Sounding, Step, Value,
                       Varint, Windy, Written)
