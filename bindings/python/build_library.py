@@ -62,6 +62,7 @@ def declared_text(declared: header.Declared) -> str:
     lines = ['"""The numbers of capgauze.h, made from it by build_library.py. Not for editing."""', "from ._number import Number", ""]
     lines += [f"{name.removeprefix('CAPGAUZE_')} = {number}" for name, number in declared.numbers.items()]
     lines += [f"{name.removeprefix('CAPGAUZE_')} = {text!r}" for name, text in declared.texts.items()]
+    lines += [f"PACKAGE_VERSION = {version_of(declared)!r}"]
     for enum in declared.enums:
         first = next(iter(enum.members))
         if first not in ENUMS:
@@ -81,8 +82,12 @@ def _in_numbers(said: str, declared: header.Declared) -> str:
 
 
 def version() -> str:
+    """The package's version."""
+    return version_of(header.read(find().header.read_text()))
+
+
+def version_of(declared: header.Declared) -> str:
     """The header's version, or the Rust crate's where the header has none."""
-    declared = header.read(find().header.read_text())
     if "CAPGAUZE_VERSION" in declared.texts:
         return declared.texts["CAPGAUZE_VERSION"]
     parts = [declared.numbers.get(f"CAPGAUZE_VERSION_{part}") for part in ("MAJOR", "MINOR", "PATCH")]

@@ -27,6 +27,7 @@ from __future__ import annotations
 
 from ._library import call, lent, room, words  # the first, since it says what is not built
 from ._declared import GRADED_WORDS, INDEX_WORDS, LEVEL_WORDS, LIMIT, NO_KEY, RECORD_WORDS, Grade, Refusal, Supplier, WireType
+from ._declared import PACKAGE_VERSION as __version__
 from .arrays import Levels, dataframe, dataset, levels
 from .answers import (Early, Entry, Graded, GradedHead, Head, Key, Level, Parts, Picked, Read, Record, Several, Sounding, Step, Value,
                       Varint, Windy, Written)

@@ -1,6 +1,7 @@
 """What accepted calls answer; a record's words are a table's."""
 from __future__ import annotations
 
+from datetime import datetime, timezone
 from typing import NamedTuple, Optional
 
 from ._declared import NO_KEY, Grade, WireType
@@ -128,3 +129,14 @@ class Graded(NamedTuple):
 def picked(found: int, type: int, value: int, length: int) -> Optional[Picked]:
     """What a lookup found, or None."""
     return Picked(wire_type(type), value, length) if found else None
+
+
+def launch_text(launch: int) -> str:
+    """A launch in words.
+
+    >>> launch_text(1700000060)
+    '2023-11-14 22:14:20 UTC'
+    """
+    if launch >= 2**33:
+        return f"{launch} s"
+    return datetime.fromtimestamp(launch, timezone.utc).strftime("%Y-%m-%d %H:%M:%S UTC")

@@ -2,11 +2,10 @@
 from __future__ import annotations
 
 from bisect import bisect_left, bisect_right
-from datetime import datetime, timezone
 from typing import Callable, Iterator, NamedTuple, Optional
 
 from ._declared import LIMIT, Refusal, WireType
-from .answers import Graded, Record, Sounding
+from .answers import Graded, Record, Sounding, launch_text
 from .messages import field_parts, records
 from .parts import decode_varint
 from .refusals import Refused
@@ -142,9 +141,9 @@ def _marks(here: list[Span], begun: int, style: Style) -> tuple[str, str]:
 
 def told(thing: Sounding | Graded) -> Iterator[str]:
     """A sounding in words."""
-    launch = datetime.fromtimestamp(thing.launch, timezone.utc).strftime("%Y-%m-%d %H:%M:%S UTC") if thing.launch < 2**33 else f"{thing.launch} s"
     grade = f", grade {thing.grade.label}" if isinstance(thing, Graded) else ""
-    yield f"a sounding: station {thing.station}, launch {launch}, {len(thing.levels)} level{'' if len(thing.levels) == 1 else 's'}{grade}"
+    count = f"{len(thing.levels)} level{'' if len(thing.levels) == 1 else 's'}"
+    yield f"a sounding: station {thing.station}, launch {launch_text(thing.launch)}, {count}{grade}"
     for number, level in enumerate(thing.levels, 1):
         values = (f"{name} not measured" if value is None else f"{name} {value} {unit}" for value, (name, unit) in zip(level, _VALUES))
         yield f"  level {number}: {', '.join(values)}"
@@ -174,10 +173,11 @@ def explain(number: int, frame: Frame, style: Style = plain, edition: Optional[i
     layers, said = [outer.spans], [*outer.fields, *([style(outer.reason, "bad")] if outer.reason else [])]
     if edition and not outer.refused:
         inner: list[Span] = []
-        for at, record in enumerate(record for record in records(frame) if record.tag == LEVEL and record.type == WireType.LENGTH_DELIMITED):
+        levels = [record for record in records(frame) if record.tag == LEVEL and record.type == WireType.LENGTH_DELIMITED]
+        for at, record in enumerate(levels, 1):
             level = layer(frame[record.value:record.value + record.length], record.value)
             inner += level.spans
-            said += [style(f"level {at + 1}, at {record.value}: {level.reason}", "bad")] if level.reason else []
+            said += [style(f"level {at}, at {record.value}: {level.reason}", "bad")] if level.reason else []
         layers.append(inner)
         thing = reader(edition)(frame)
         said += [style(f"no sounding: {thing}: {thing.meaning}", "bad")] if isinstance(thing, Refused) else told(thing)

@@ -5,11 +5,10 @@ takes it for dry air.
 """
 from __future__ import annotations
 
-from datetime import datetime, timezone
 from typing import TYPE_CHECKING, Any, NamedTuple, Optional, Sequence, Union
 
 from ._optional import need
-from .answers import Graded, Level, Sounding, Windy
+from .answers import Graded, Level, Sounding, Windy, launch_text
 
 if TYPE_CHECKING:
     from matplotlib.figure import Figure
@@ -66,17 +65,6 @@ def gaps(values: Sequence[Optional[float]]) -> list[range]:
     [range(1, 3)]
     """
     return runs([1.0 if value is None else None for value in values])
-
-
-def launch_text(launch: int) -> str:
-    """A launch in words.
-
-    >>> launch_text(1700000060)
-    '2023-11-14 22:14:20 UTC'
-    """
-    if launch >= 2**33:
-        return f"{launch} s"
-    return datetime.fromtimestamp(launch, timezone.utc).strftime("%Y-%m-%d %H:%M:%S UTC")
 
 
 def series_of(sounding: Union[Sounding, Graded]) -> list[Series]:
@@ -147,12 +135,13 @@ def _bands(axes: Any, lines: list[Series], pressures: list[float]) -> None:
             low, high = _edges(gap, pressures)
             axes.axhspan(low, high, facecolor=series.colour, alpha=0.06, linewidth=0, zorder=0)
             axes.axhspan(low, high, facecolor="none", edgecolor=series.colour, alpha=0.22, hatch=series.hatch, linewidth=0, zorder=1)
-            near = [value for other in lines for value, pressure in zip(other.values, pressures) if value is not None and low <= pressure <= high]
+            near = [value for other in lines for value, pressure in zip(other.values, pressures)
+                    if value is not None and low <= pressure <= high]
             at_right = not near or sum(near) / len(near) < (left + right) / 2
             first, last = (f"{pressures[at]:.0f}" if pressures[at] >= 10 else f"{pressures[at]:g}" for at in (gap[0], gap[-1]))
             where = f"at {first} hPa" if len(gap) == 1 else f"from {first} to {last} hPa"
-            axes.annotate(f"{series.name} not measured {where}", (0.98 if at_right else 0.02, (low * high) ** 0.5), xycoords=("axes fraction", "data"),
-                          xytext=(0, -9 if number else 9), textcoords="offset points", ha="right" if at_right else "left", va="center",
+            axes.annotate(f"{series.name} not measured {where}", (0.98 if at_right else 0.02, (low * high) ** 0.5),
+                          xycoords=("axes fraction", "data"), xytext=(0, -9 if number else 9), textcoords="offset points", ha="right" if at_right else "left", va="center",
                           color=series.colour, fontsize=9.5, zorder=4,
                           bbox={"boxstyle": "round,pad=0.25", "facecolor": "white", "edgecolor": series.colour, "linewidth": 0.6})
 
@@ -177,8 +166,8 @@ def _strip(axes: Any, lines: list[Series], pressures: list[float], size: float) 
         label.set_color(series.colour)
         for gap in gaps(series.values):
             low, high = _edges(gap, pressures)
-            axes.add_patch(Rectangle((column - 0.32, low), 0.64, high - low, facecolor="white", edgecolor=series.colour, hatch=series.hatch * 4,
-                                     linewidth=0.8, alpha=0.8))
+            axes.add_patch(Rectangle((column - 0.32, low), 0.64, high - low, facecolor="white", edgecolor=series.colour,
+                                     hatch=series.hatch * 4, linewidth=0.8, alpha=0.8))
             axes.plot([column] * len(gap), [pressures[at] for at in gap], linestyle="none", marker="x", color=series.colour, markersize=size,
                       gid=f"{series.name} missing")
         for run in runs(series.values):

@@ -19,7 +19,7 @@ class Ran(NamedTuple):
 
 def surroundings(**more: str) -> dict[str, str]:
     """The environment in which the package is found, also where it is not installed."""
-    return {**os.environ, "PYTHONPATH": str(ROOT / "bindings/python"), "MPLCONFIGDIR": os.environ.get("MPLCONFIGDIR", "/tmp/capgauze-matplotlib"), **more}
+    return {**os.environ, "PYTHONPATH": str(ROOT / "bindings/python"), **more}
 
 
 def run(*arguments: str, given: bytes = b"", **options: Any) -> Ran:

@@ -75,5 +75,6 @@ def soundings(draw: Any, edition: int = 2) -> bytes:
 
 
 some_frames = st.lists(st.one_of(soundings(), damaged(soundings()), any_bytes), max_size=8)
+no_frames = st.sampled_from([b"", b"0", b"0g", b"04 01", b"0401\r", b"\xff"])  # but for the first
 some_lines = st.lists(st.one_of(soundings().map(lambda s: s.hex().encode()), soundings().map(lambda s: s.hex().upper().encode()),
-                                any_bytes.map(lambda s: s.hex().encode()), st.sampled_from([b"", b"0", b"0g", b"04 01", b"0401\r", b"\xff"])), max_size=8)
+                                any_bytes.map(lambda s: s.hex().encode()), no_frames), max_size=8)

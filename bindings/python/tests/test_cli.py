@@ -1,8 +1,11 @@
 """The command: what it prints is what the programs print, and it fails as they do."""
+import contextlib
 import csv
 import io
 import itertools
 import json
+import os
+import pty
 import re
 import subprocess
 
@@ -201,9 +204,18 @@ class TestProgress:
         session.Progress(5).end()
         assert capsys.readouterr().err == ""
 
-    def test_none_without_a_terminal(self, tmp_path):
-        (tmp_path / "many").write_bytes(b"0401\n" * 300_000)
+    def test_on_a_terminal_only(self, tmp_path):
+        (tmp_path / "many").write_bytes(b"0401\n" * 400_000)
         assert run("dump", str(tmp_path / "many")).error == ""
+        terminal, end = pty.openpty()
+        with subprocess.Popen([*COMMAND, "dump", str(tmp_path / "many")], stdout=subprocess.DEVNULL, stderr=end, env=surroundings()) as process:
+            os.close(end)
+            shown = b""
+            with contextlib.suppress(OSError):  # what a terminal tells when its other end is closed
+                while block := os.read(terminal, 1 << 16):
+                    shown += block
+        os.close(terminal)
+        assert process.returncode == 0 and b"MB, " in shown and shown.endswith(b"\r\x1b[K")
 
 
 capgauze_na = pytest.importorskip("pandas").NA

@@ -67,7 +67,8 @@ class TestCluster:
     @pytest.fixture(scope="class")
     def files(self, tmp_path_factory):
         folder = tmp_path_factory.mktemp("archive")
-        lines = [line for name in ("soundings", "iced", "rows", "winds", "two-sensors") for line in (EXAMPLES / f"{name}.hex").read_bytes().split(b"\n")]
+        names = ("soundings", "iced", "rows", "winds", "two-sensors")
+        lines = [line for name in names for line in (EXAMPLES / f"{name}.hex").read_bytes().split(b"\n")]
         for number in range(3):
             (folder / f"{number}.hex").write_bytes(b"\n".join(lines * (1500 + number)))
         return folder

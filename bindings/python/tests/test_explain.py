@@ -49,8 +49,8 @@ def test_the_rows_have_the_bytes(s):
 class TestDamaged:
     @pytest.mark.parametrize("s, marks, said", zip(DAMAGED, [
         "K  !!", "K  V  K  !!", "K  V  !!!!!", "K  L  !!", "K  !!!!!", "K  " + "!" * 26, "!" * 26, "!" * 14], [
-        "the bytes end there", "its last byte, 80, promises another", "its last byte, 80, promises another", "its length promises 3 bytes, and there is 1",
-        "its value takes 4 bytes, and there are 2", "2^64 or more", "2^64 or more", "4,294,967,295"]))
+        "the bytes end there", "its last byte, 80, promises another", "its last byte, 80, promises another",
+        "its length promises 3 bytes, and there is 1", "its value takes 4 bytes, and there are 2", "2^64 or more", "2^64 or more", "4,294,967,295"]))
     def test_each(self, s, marks, said):
         text = explain(1, s).splitlines()
         assert text[2].strip() == marks and said in text[-1]

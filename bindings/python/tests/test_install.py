@@ -26,7 +26,8 @@ def copied(tmp_path):
 
 def clean(**more):
     """The environment without what names a library."""
-    return {name: value for name, value in surroundings(**more).items() if name not in ("PYTHONPATH", "CAPGAUZE_ARCHIVE", "PKG_CONFIG_PATH") or name in more}
+    named = {"PYTHONPATH", "CAPGAUZE_ARCHIVE", "PKG_CONFIG_PATH"} - set(more)
+    return {name: value for name, value in surroundings(**more).items() if name not in named}
 
 
 def ran(command, folder, **more):
@@ -47,8 +48,8 @@ class TestNotBuilt:
 
     @pytest.mark.parametrize("module, call, debian", [
         ("numpy", "capgauze.levels(b'')", "python3-numpy"), ("pandas", "capgauze.dataframe(b'')", "python3-pandas"),
-        ("xarray", "capgauze.dataset(b'')", "python3-xarray"), ("matplotlib", "capgauze.plot.draw(capgauze.Sounding(1, 2, []))", "python3-matplotlib"),
-        ("dask", "capgauze.dask.read_soundings('x')", "python3-dask")])
+        ("xarray", "capgauze.dataset(b'')", "python3-xarray"), ("dask", "capgauze.dask.read_soundings('x')", "python3-dask"),
+        ("matplotlib", "capgauze.plot.draw(capgauze.Sounding(1, 2, []))", "python3-matplotlib")])
     def test_no_optional_package(self, module, call, debian):
         code = f"import sys; sys.modules[{module!r}] = None; import capgauze, capgauze.plot, capgauze.dask; {call}"
         done = subprocess.run([sys.executable, "-c", code], env=surroundings(), capture_output=True, text=True)
@@ -56,7 +57,8 @@ class TestNotBuilt:
         assert last.startswith("capgauze._optional.Missing: ") and last.endswith(f"needs {module} (Debian: {debian})")
 
     def test_a_command_without_its_package(self, tmp_path):
-        code = "import sys; sys.modules['matplotlib'] = None; from capgauze.cli import main; sys.exit(main(['plot', sys.argv[1], '-o', 'x.svg']))"
+        code = ("import sys; sys.modules['matplotlib'] = None; from capgauze.cli import main; "
+                "sys.exit(main(['plot', sys.argv[1], '-o', 'x.svg']))")
         done = subprocess.run([sys.executable, "-c", code, str(EXAMPLES / "iced.hex")], env=surroundings(), cwd=tmp_path, capture_output=True, text=True)
         assert (done.returncode, done.stderr) == (1, "capgauze plot: drawing needs matplotlib (Debian: python3-matplotlib)\n")
 

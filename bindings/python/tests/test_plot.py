@@ -97,7 +97,8 @@ class TestCommand:
         for arguments, error in ((["--frame", "3", "examples/rows.hex"], "frame 3 is refused: Repeated (11)"),
                                  (["--frame", "4", "examples/rows.hex"], "frame 4 is refused: HEX: the line is not hexadecimal"),
                                  (["--frame", "9", "examples/rows.hex"], "examples/rows.hex: there is no frame 9"),
-                                 (["--edition", "2", "--least", "canonical", "--frame", "2", "examples/winds.hex"], "frame 2 is refused: NotCanonical (14)")):
+                                 (["--edition", "2", "--least", "canonical", "--frame", "2", "examples/winds.hex"],
+                                  "frame 2 is refused: NotCanonical (14)")):
             ran = run("plot", *arguments, "-o", str(tmp_path / "no.svg"))
             assert (ran.status, ran.error) == (1, f"capgauze plot: {error}\n")
         assert run("plot", "examples/iced.hex", "-o", "/nowhere/x.svg").error == "capgauze plot: /nowhere/x.svg: No such file or directory\n"

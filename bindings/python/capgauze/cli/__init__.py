@@ -8,10 +8,9 @@ from __future__ import annotations
 import argparse
 import signal
 import sys
-from importlib.metadata import PackageNotFoundError, version
 from typing import Optional, Sequence
 
-from .. import _declared
+from .._declared import PACKAGE_VERSION
 from .._optional import Missing
 from . import dump, explain, lookup, plot, soundings
 from .session import Failure, Session, Usage
@@ -28,18 +27,11 @@ def parser() -> tuple[argparse.ArgumentParser, dict[str, argparse.ArgumentParser
     """The parser that chooses a command, and each command's own."""
     made = argparse.ArgumentParser("capgauze", description="Reads Bilrost messages, and balloon soundings in which a missing value stays missing.",
                                    epilog=EPILOG, formatter_class=argparse.RawDescriptionHelpFormatter, allow_abbrev=False)
-    made.add_argument("--version", action="version", version=f"capgauze {_version()}")
+    made.add_argument("--version", action="version", version=f"capgauze {PACKAGE_VERSION}")
     commands = made.add_subparsers(metavar="COMMAND", dest="command", required=True)
     for module in (dump, soundings, lookup, explain, plot):
         module.add(commands)
     return made, commands.choices
-
-
-def _version() -> str:
-    try:
-        return version("capgauze")
-    except PackageNotFoundError:
-        return str(getattr(_declared, "VERSION", "that is not installed"))
 
 
 def _plain(words: list[str]) -> list[str]:
@@ -60,13 +52,15 @@ def main(arguments: Optional[Sequence[str]] = None) -> int:
     # options may stand among the files, which a parser of commands does not take
     asked = commands[command].parse_intermixed_args(_plain(words[1:])) if command in commands else chooser.parse_args(words)
     try:
-        session = Session(asked)
-        asked.run(session, asked)
-        session.end()
+        with Session(asked) as session:
+            asked.run(session, asked)
     except Usage as usage:
-        print(f"capgauze {command}: {usage}", file=sys.stderr)
-        return 2
+        return _said(command, usage, 2)
     except (Failure, Missing) as failure:
-        print(f"capgauze {command}: {failure}", file=sys.stderr)
-        return 1
+        return _said(command, failure, 1)
     return 0
+
+
+def _said(command: str, why: Exception, status: int) -> int:
+    print(f"capgauze {command}: {why}", file=sys.stderr)
+    return status

@@ -64,14 +64,5 @@ def refused_line(number: int, refused: Refused) -> str:
 
 
 def run(session: Session, asked: argparse.Namespace) -> None:
-    for number, frame in session.frames(asked.files):
-        try:
-            if isinstance(frame, Refused):
-                raise frame
-            found = records(frame)
-        except Refused as refused:
-            session.count(refused)
-            session.print(refused_line(number, refused))
-            continue
-        session.count(None)
+    for number, frame, found in session.accepted(asked.files, records, refused_line):
         session.print("".join(field_line(number, frame, record) for record in found) + f"{number} OK {len(found)} {len(frame)}\n")

@@ -6,7 +6,6 @@ import os
 from typing import Any
 
 from ..explain import explain, plain
-from ..refusals import Refused
 from .dump import command, files
 from .session import Session
 
@@ -24,7 +23,7 @@ def add(commands: Any) -> None:
     made.add_argument("--sounding", type=int, choices=(1, 2), metavar="EDITION",
                       help="explain it as a sounding of edition 1 or 2 too: the fields of its levels, and what they mean")
     made.add_argument("--frame", type=int, metavar="N", help="this frame alone, counted from 1")
-    files(made)
+    files(made, counted=False)
 
 
 def coloured(text: str, kind: str) -> str:
@@ -36,5 +35,4 @@ def run(session: Session, asked: argparse.Namespace) -> None:
     colour = os.isatty(1) and not os.environ.get("NO_COLOR") and os.environ.get("TERM") != "dumb"
     for number, frame in session.frames(asked.files):
         if asked.frame in (None, number):
-            session.count(frame if isinstance(frame, Refused) else None)
             session.print(explain(number, frame, coloured if colour else plain, asked.sounding) + ("" if asked.frame else "\n"))

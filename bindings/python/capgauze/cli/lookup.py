@@ -4,14 +4,14 @@ from __future__ import annotations
 import argparse
 from typing import Any, Optional
 
-from ..answers import Record
+from ..answers import Picked, Record
 from ..corrections import corrected
 from ..index import Index
 from ..messages import message, payload_of, pick, pick_at, records
 from ..refusals import Refused
 from ..stream import Frame
 from .dump import command, field_line, files
-from .session import Failure, Session, verdict_of
+from .session import Failure, Session, verdict_line, verdict_of
 
 LEVEL = 3  # the tag of a level
 
@@ -71,34 +71,18 @@ _tag.__name__, _from_one.__name__ = "tag", "number"  # as argparse says them
 
 
 def run_pick(session: Session, asked: argparse.Namespace) -> None:
-    for number, frame in session.frames(asked.files):
-        try:
-            if isinstance(frame, Refused):
-                raise frame
-            if asked.all:
-                found = [pick_at(frame, asked.tag, at).picked for at in range(pick_at(frame, asked.tag, 0).count)]
-            else:
-                found = [pick(frame, asked.tag)]
-        except Refused as refused:
-            session.count(refused)
-            session.print(f"{number} {verdict_of(refused)}\n")
-            continue
-        session.count(None)
+    def read(frame: bytes) -> list[Optional[Picked]]:
+        if not asked.all:
+            return [pick(frame, asked.tag)]
+        return [pick_at(frame, asked.tag, at).picked for at in range(pick_at(frame, asked.tag, 0).count)]
+
+    for number, frame, found in session.accepted(asked.files, read, verdict_line):
         fields = [field_line(number, frame, Record(asked.tag, *field)) for field in found if field]
         session.print("".join(fields) or f"{number} NONE\n")
 
 
 def run_index(session: Session, asked: argparse.Namespace) -> None:
-    for number, frame in session.frames(asked.files):
-        try:
-            if isinstance(frame, Refused):
-                raise frame
-            index = Index(frame)
-        except Refused as refused:
-            session.count(refused)
-            session.print(f"{number} {verdict_of(refused)}\n")
-            continue
-        session.count(None)
+    for number, _, index in session.accepted(asked.files, Index, verdict_line):
         entries = "".join(f"{number} X {entry.tag} {entry.place} {entry.count}\n" for entry in index)
         session.print(f"{entries}{number} OK {len(index)} {index.line()}\n")
 

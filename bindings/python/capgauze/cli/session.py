@@ -7,10 +7,13 @@ import sys
 import time
 from argparse import Namespace
 from collections import Counter
-from typing import Any, BinaryIO, Callable, Iterator, NoReturn, Optional
+from typing import Any, BinaryIO, Callable, Iterator, NoReturn, Optional, TypeVar
 
 from ..refusals import Refused
-from ..stream import BLOCK, Frame, frame_of, lines
+from ..stream import Frame, frame_of, lines
+
+
+T = TypeVar("T")
 
 
 class Failure(Exception):
@@ -47,7 +50,8 @@ class Progress:
         part = min(self.read / self.total, 1.0)
         left = seconds * (1 - part) / part
         full = round(self.width * part)
-        return f"{part:4.0%} [{'#' * full}{' ' * (self.width - full)}] {self.read / 1e6:.0f} of {self.total / 1e6:.0f} MB, {left:.0f} s left \x1b[K"
+        bar = "#" * full + " " * (self.width - full)
+        return f"{part:4.0%} [{bar}] {self.read / 1e6:.0f} of {self.total / 1e6:.0f} MB, {left:.0f} s left \x1b[K"
 
     def end(self) -> None:
         if self.shown:
@@ -63,6 +67,15 @@ class Session:
         self.counts: Counter[str] = Counter()
         self.out = _standard(1, "wb")
         self.progress: Optional[Progress] = None
+
+    def __enter__(self) -> Session:
+        return self
+
+    def __exit__(self, kind: Optional[type], *_: Any) -> None:
+        if self.progress:
+            self.progress.end()
+        if kind is None:
+            self.end()
 
     def open(self, names: list[str]) -> list[tuple[str, BinaryIO]]:
         """The files of these names; none, or -, is the standard input."""
@@ -98,14 +111,26 @@ class Session:
                 for line in lines(self._blocks(name, file)):
                     number += 1
                     yield number, frame_of(line)
-        if self.progress:
-            self.progress.end()
+
+    def accepted(self, names: list[str], read: Callable[[bytes], T], refused_line: Callable[[int, Refused], str]) -> Iterator[tuple[int, bytes, T]]:
+        """The frames that `read` takes, each with what it answers; a refused one has its line printed in its place. All are counted."""
+        for number, frame in self.frames(names):
+            try:
+                if isinstance(frame, Refused):
+                    raise frame
+                answer = read(frame)
+            except Refused as refused:
+                self.count(refused)
+                self.print(refused_line(number, refused))
+                continue
+            self.count(None)
+            yield number, frame, answer
 
     def _blocks(self, name: str, file: BinaryIO) -> Iterator[bytes]:
         while True:
             self.flush()
             try:
-                block = file.read(BLOCK)
+                block = file.read(1 << 16)
             except OSError as error:
                 failed(name, error)
             if not block:
@@ -151,6 +176,11 @@ def verdict_of(refused: Refused) -> str:
     'NO 11'
     """
     return refused.name if refused.number is None else f"NO {refused.number}"
+
+
+def verdict_line(number: int, refused: Refused) -> str:
+    """A refused frame's line: its number, and the refusal in the words of the dump."""
+    return f"{number} {verdict_of(refused)}\n"
 
 
 def _standard(descriptor: int, mode: str) -> Any:
