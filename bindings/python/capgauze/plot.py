@@ -141,8 +141,8 @@ def _bands(axes: Any, lines: list[Series], pressures: list[float]) -> None:
             first, last = (f"{pressures[at]:.0f}" if pressures[at] >= 10 else f"{pressures[at]:g}" for at in (gap[0], gap[-1]))
             where = f"at {first} hPa" if len(gap) == 1 else f"from {first} to {last} hPa"
             axes.annotate(f"{series.name} not measured {where}", (0.98 if at_right else 0.02, (low * high) ** 0.5),
-                          xycoords=("axes fraction", "data"), xytext=(0, -9 if number else 9), textcoords="offset points", ha="right" if at_right else "left", va="center",
-                          color=series.colour, fontsize=9.5, zorder=4,
+                          xycoords=("axes fraction", "data"), xytext=(0, -9 if number else 9), textcoords="offset points",
+                          ha="right" if at_right else "left", va="center", color=series.colour, fontsize=9.5, zorder=4,
                           bbox={"boxstyle": "round,pad=0.25", "facecolor": "white", "edgecolor": series.colour, "linewidth": 0.6})
 
 

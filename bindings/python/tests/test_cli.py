@@ -49,8 +49,8 @@ class TestAsThePrograms:
 
     def test_the_examples_of_the_readme(self):
         text = (ROOT / "README.md").read_text()
-        examples = re.findall(r"^    \$ (.*\./(?:dump|soundings).*)\n((?:    .*\n)+)", text, re.M)
-        assert len(examples) >= 6
+        examples = re.findall(r"^    \$ (.*(?:\./(?:dump|soundings)|capgauze \w+).*)\n((?:    (?!\$ ).*\n)+)", text, re.M)
+        assert len(examples) >= 7
         for line, wanted in examples:
             ran = shell(re.sub(r"\./(dump|soundings)", r"capgauze \1", line))
             assert (ran.status, ran.out, ran.error) == (0, re.sub("(?m)^    ", "", wanted), "")
@@ -205,17 +205,19 @@ class TestProgress:
         assert capsys.readouterr().err == ""
 
     def test_on_a_terminal_only(self, tmp_path):
-        (tmp_path / "many").write_bytes(b"0401\n" * 400_000)
-        assert run("dump", str(tmp_path / "many")).error == ""
-        terminal, end = pty.openpty()
-        with subprocess.Popen([*COMMAND, "dump", str(tmp_path / "many")], stdout=subprocess.DEVNULL, stderr=end, env=surroundings()) as process:
+        (tmp_path / "many").write_bytes(b"0401\n" * 250_000)
+        command, terminal, end = [*COMMAND, "dump", str(tmp_path / "many")], *pty.openpty()
+        with subprocess.Popen(command, stdout=subprocess.DEVNULL, stderr=end, env=surroundings()) as on_terminal, \
+                subprocess.Popen(command, stdout=subprocess.DEVNULL, stderr=subprocess.PIPE, env=surroundings()) as on_none:
             os.close(end)
             shown = b""
             with contextlib.suppress(OSError):  # what a terminal tells when its other end is closed
                 while block := os.read(terminal, 1 << 16):
                     shown += block
+            assert on_none.stderr.read() == b""
         os.close(terminal)
-        assert process.returncode == 0 and b"MB, " in shown and shown.endswith(b"\r\x1b[K")
+        assert on_terminal.returncode == on_none.returncode == 0
+        assert b"MB, " in shown and shown.endswith(b"\r\x1b[K")
 
 
 capgauze_na = pytest.importorskip("pandas").NA
