@@ -142,6 +142,8 @@ def _declare(statement: str, declared: Declared) -> None:
         declared.declarations.append(function[1].strip() + ";")
     elif table := re.fullmatch(r"(?:static |extern )?([\w *]+?)(\w+) ?\[[^][]*\](?: ?= ?\{.*\})?", plain):
         declared.declarations.append(f"extern {table[1].strip()} {table[2]}[...];")
+    elif re.fullmatch(r"static const struct ?\{[^{}]*\} \w+ ?\[[^][]*\] ?= ?\{.*\}", plain):
+        pass  # a table whose rows have no name: nothing outside of C can ask for one
     else:
         raise HeaderError(f"a declaration of an unknown form: {plain[:80]}")
 

@@ -74,7 +74,7 @@ def _fields(name: str) -> tuple[str, ...]:
 
 
 _ENTRIES = {name.removeprefix("capgauze_"): (getattr(lib, name), _fields(name)) for name in dir(lib)
-            if name.startswith("capgauze_") and callable(getattr(lib, name))}
+            if name.startswith("capgauze_") and ffi.typeof(getattr(lib, name)).kind == "function"}
 
 
 def call(name: str, *arguments: Any) -> Any:

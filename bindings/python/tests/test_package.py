@@ -71,6 +71,7 @@ class TestHeader:
             #endif
             static const char *const a_names[] = {"accepted; not", "b"};
             static inline const char *a_name(uint64_t n) { if (n) { return a_names[n]; } return "{"; }
+            static const struct { int number; const char *name; } a_rows[] = {{0, "accepted"}, {1, "b"}};
             A_API int a_last(void);
             enum a_kind { A_NONE, A_SOME = 5, A_MORE };
             #ifdef __cplusplus

@@ -7,7 +7,7 @@ from typing import Any, Iterator, Optional, Union
 
 from .._declared import Grade
 from .._optional import need
-from ..answers import Graded, Sounding
+from ..answers import Graded, Sounding, Windy
 from ..refusals import Refused
 from ..stream import least_of, reader
 from .dump import command, files
@@ -67,8 +67,14 @@ def cells(thing: Union[Sounding, Graded, Refused], edition: int) -> Iterator[str
     if not thing.levels:
         yield head + "," * (4 if edition == 1 else 6) + grade
     for number, level in enumerate(thing.levels, 1):
-        values = "".join("," if value is None else f"{value:.1f}," if isinstance(value, float) else f"{value}," for value in level)
-        yield f"{head}{number},{values}{grade}"
+        wind = ""
+        if isinstance(level, Windy):
+            wind = f"{_tenths(level.wind_speed_ms)},{'' if level.wind_direction_deg is None else level.wind_direction_deg},"
+        yield f"{head}{number},{level[0]},{_tenths(level[1])},{_tenths(level[2])},{wind}{grade}"
+
+
+def _tenths(value: Optional[float]) -> str:
+    return "" if value is None else f"{value:.1f}"
 
 
 def as_json(number: int, thing: Union[Sounding, Graded, Refused]) -> str:
