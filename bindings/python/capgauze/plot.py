@@ -134,7 +134,7 @@ def _bands(axes: Any, lines: list[Series], pressures: list[float]) -> None:
         for gap in gaps(series.values):
             low, high = _edges(gap, pressures)
             axes.axhspan(low, high, facecolor=series.colour, alpha=0.06, linewidth=0, zorder=0)
-            axes.axhspan(low, high, facecolor="none", edgecolor=series.colour, alpha=0.22, hatch=series.hatch, linewidth=0, zorder=1)
+            axes.axhspan(low, high, facecolor="none", edgecolor=_pale(series.colour), hatch=series.hatch, linewidth=0, zorder=1)
             near = [value for other in lines for value, pressure in zip(other.values, pressures)
                     if value is not None and low <= pressure <= high]
             at_right = not near or sum(near) / len(near) < (left + right) / 2
@@ -144,6 +144,11 @@ def _bands(axes: Any, lines: list[Series], pressures: list[float]) -> None:
                           xycoords=("axes fraction", "data"), xytext=(0, -9 if number else 9), textcoords="offset points",
                           ha="right" if at_right else "left", va="center", color=series.colour, fontsize=9.5, zorder=4,
                           bbox={"boxstyle": "round,pad=0.25", "facecolor": "white", "edgecolor": series.colour, "linewidth": 0.6})
+
+
+def _pale(colour: str) -> str:
+    """A colour with much white in it, and not one that is seen through: viewers of SVG differ in hatches that are."""
+    return "#" + "".join(f"{255 - (255 - int(colour[at:at + 2], 16)) * 3 // 10:02x}" for at in (1, 3, 5))
 
 
 def _edges(gap: range, pressures: list[float]) -> tuple[float, float]:
@@ -167,7 +172,7 @@ def _strip(axes: Any, lines: list[Series], pressures: list[float], size: float) 
         for gap in gaps(series.values):
             low, high = _edges(gap, pressures)
             axes.add_patch(Rectangle((column - 0.32, low), 0.64, high - low, facecolor="white", edgecolor=series.colour,
-                                     hatch=series.hatch * 4, linewidth=0.8, alpha=0.8))
+                                     hatch=series.hatch * 4, linewidth=0.8))
             axes.plot([column] * len(gap), [pressures[at] for at in gap], linestyle="none", marker="x", color=series.colour, markersize=size,
                       gid=f"{series.name} missing")
         for run in runs(series.values):

@@ -20,7 +20,7 @@ from capgauze.cli import soundings as table
 from commands import COMMAND, run, shell, surroundings
 from helpers import EXAMPLES, ROOT
 
-SOUNDINGS = (EXAMPLES / "soundings.hex").read_bytes()
+pandas = pytest.importorskip("pandas")
 
 
 def by_frame(text, separator):
@@ -138,7 +138,7 @@ class TestSoundings:
         assert list(frame.columns) == names and len(frame) == len(rows)
         for row, (_, values) in zip(rows, frame.astype(object).iterrows()):
             for name, cell, value in zip(names, row, values):
-                assert (cell == "") == bool(value is None or value is capgauze_na or value != value), name
+                assert (cell == "") == bool(pandas.isna(value)), name
                 if cell and isinstance(value, float):
                     assert float(cell) == value
                 elif cell:
@@ -218,6 +218,3 @@ class TestProgress:
         os.close(terminal)
         assert on_terminal.returncode == on_none.returncode == 0
         assert b"MB, " in shown and shown.endswith(b"\r\x1b[K")
-
-
-capgauze_na = pytest.importorskip("pandas").NA

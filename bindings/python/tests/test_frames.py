@@ -3,8 +3,6 @@ import io
 import os
 import threading
 
-import numpy as np
-import pandas
 import pytest
 from hypothesis import given
 from hypothesis import strategies as st
@@ -15,6 +13,7 @@ from capgauze import stream
 from capgauze.batches import REFUSALS
 from helpers import EXAMPLES
 
+np, pandas = pytest.importorskip("numpy"), pytest.importorskip("pandas")
 ROWS = EXAMPLES / "rows.hex"
 
 

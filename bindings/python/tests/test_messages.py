@@ -215,6 +215,17 @@ class TestTheLimit:
 
 
 class TestLent:
+    def test_words_of_numpy(self):
+        numpy = pytest.importorskip("numpy")
+        table = numpy.full(16, 77, numpy.uint64)
+        assert capgauze.read_message(MESSAGE, table).count == 3
+        assert table.tolist() == [word for record in RECORDS for word in record] + [77]
+        buf = numpy.zeros(19, numpy.uint8)
+        assert capgauze.encode_message(MESSAGE, table, 3, buf) == (0, 19) and buf.tobytes() == MESSAGE
+        for wrong in (table[::2], table.astype(numpy.uint32)):
+            with pytest.raises(TypeError):
+                capgauze.read_message(MESSAGE, wrong)
+
     def test_empty(self):
         assert capgauze.read_message(b"", array("Q")) == (0, 0)
         assert capgauze.encode_message(b"", array("Q"), 0, bytearray()) == (0, 0)
