@@ -4,7 +4,7 @@ from __future__ import annotations
 from dataclasses import dataclass
 from typing import TYPE_CHECKING, Any, Iterator, NamedTuple, Optional
 
-from ._declared import Grade
+from ._declared import GRADED_WORDS, LEVEL_WORDS, Grade
 from ._optional import need
 from .batches import REFUSALS, Batch, batches
 from .stream import Source, frames, least_of
@@ -94,7 +94,7 @@ def _collect(found: Iterator[Batch], edition: int) -> _All:
     nothing = np.empty(0, np.uint64)
     parts: list[tuple[Any, ...]] = [(*batch[:5], columns(batch, edition)) for batch in found]
     if not parts:
-        width = 5 if edition == 1 else 9
+        width = LEVEL_WORDS if edition == 1 else GRADED_WORDS
         parts = [(nothing,) * 4 + (nothing.astype(np.uint8), columns(Batch(*(nothing,) * 5, nothing.reshape(0, width)), edition))]
     station, launch, counts, grade, refusal = (np.concatenate([part[at] for part in parts]) for at in range(5))
     named = {name: np.concatenate([part[5][name] for part in parts]) for name in parts[0][5]}

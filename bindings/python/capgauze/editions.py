@@ -6,6 +6,7 @@ from ._library import Bytes, Table, accepted, lent, most_fields, owned, table_ro
 from .answers import Graded, GradedHead, Head, Level, Sounding, Windy
 from .parts import u64_to_signed
 
+LEVEL_TAG = 3
 NOT_CANONICAL, HAS_EXTENSIONS, CANONICAL = Grade.NOT_CANONICAL, Grade.HAS_EXTENSIONS, Grade.CANONICAL  # from the least to the most
 
 

@@ -6,13 +6,13 @@ from typing import Callable, Iterator, NamedTuple, Optional
 
 from ._declared import LIMIT, Refusal, WireType
 from .answers import Graded, Record, Sounding, launch_text
+from .editions import LEVEL_TAG
 from .messages import field_parts, records
 from .parts import decode_varint
 from .refusals import Refused
 from .stream import Frame, reader
 
 WIDTH = 16  # bytes a row
-LEVEL = 3  # the tag of a level
 Style = Callable[[str, str], str]  # a text, and what it is: key, length, value, bad, or nothing
 
 
@@ -173,7 +173,7 @@ def explain(number: int, frame: Frame, style: Style = plain, edition: Optional[i
     layers, said = [outer.spans], [*outer.fields, *([style(outer.reason, "bad")] if outer.reason else [])]
     if edition and not outer.refused:
         inner: list[Span] = []
-        levels = [record for record in records(frame) if record.tag == LEVEL and record.type == WireType.LENGTH_DELIMITED]
+        levels = [record for record in records(frame) if record.tag == LEVEL_TAG and record.type == WireType.LENGTH_DELIMITED]
         for at, record in enumerate(levels, 1):
             level = layer(frame[record.value:record.value + record.length], record.value)
             inner += level.spans

@@ -72,6 +72,15 @@ class TestAsThePrograms:
         assert run("dump").out == ""
         assert run("soundings").out == "frame,station,launch,level,pressure_pa,temperature_c,dewpoint_depression_c,refusal\n"
 
+    def test_a_pipe_has_its_answer_before_more_is_sent(self):
+        with subprocess.Popen([*COMMAND, "dump"], stdin=subprocess.PIPE, stdout=subprocess.PIPE, env=surroundings()) as process:
+            for number in range(1, 4):
+                process.stdin.write(b"0401\n")
+                process.stdin.flush()
+                assert [process.stdout.readline() for _ in range(2)] == [b"%d F 1 0 0000000000000001\n" % number, b"%d OK 1 2\n" % number]
+            process.stdin.close()
+        assert process.returncode == 0
+
     def test_a_line_of_any_length(self):
         most = "00" * capgauze.LIMIT
         ran = run("soundings", given=f"{most}\n{most}0\n{most}00\n".encode())

@@ -4,16 +4,16 @@ from __future__ import annotations
 import argparse
 from typing import Any, Optional
 
+from .._declared import Refusal, WireType
 from ..answers import Picked, Record
 from ..corrections import corrected
+from ..editions import LEVEL_TAG
 from ..index import Index
 from ..messages import message, payload_of, pick, pick_at, records
 from ..refusals import Refused
 from ..stream import Frame
 from .dump import command, field_line, files
 from .session import Failure, Session, verdict_line, verdict_of
-
-LEVEL = 3  # the tag of a level
 
 PICK = """Prints the only field of a tag of each frame, in the words of the dump.
   frame F tag type value   the field
@@ -113,9 +113,9 @@ def over(original: Frame, correction: Frame, level: Optional[int]) -> bytes:
     if level is None:
         return corrected(original, correction)
     found = records(original)
-    at = [place for place, record in enumerate(found) if record.tag == LEVEL]
+    at = [place for place, record in enumerate(found) if record.tag == LEVEL_TAG]
     if level > len(at):
-        raise Refused(13)
+        raise Refused(Refusal.MISSING_FIELD)
     part = corrected(payload_of(original, found[at[level - 1]]), correction)
-    found[at[level - 1]] = Record(LEVEL, 1, len(original), len(part))
+    found[at[level - 1]] = Record(LEVEL_TAG, WireType.LENGTH_DELIMITED, len(original), len(part))
     return message(found, original + part)
