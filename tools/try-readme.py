@@ -5,8 +5,8 @@ part of the gate. Ends in 'N right, M wrong', with status 1 if one is wrong.
     tools/try-readme.py [FILE..]     README.md, bindings/README.md and bindings/rust/README.md, where none is named
 
 First ./install puts all into a folder of its own, so that pkg-config finds it; CAPGAUZE_ARCHIVE and CAPGAUZE_PROGRAMS name what is proved already. A
-snippet in C is example.c, and commands that name it run where it lies; all others run in the folder of the text. Run elsewhere: Python's snippets, by
-the tests of bindings/python, and the Rust ones of bindings/rust/README.md, by cargo.
+snippet in C is example.c, and commands that name it run where it lies; all others run in the folder of the text. Run elsewhere: Python's snippets and
+its command `capgauze`, by the tests of bindings/python, and the Rust ones of bindings/rust/README.md, by cargo.
 """
 import os
 import re
@@ -62,6 +62,8 @@ def try_rust(name, snippet, room, env):
 
 def try_commands(name, text, folder, room, env):
     for command, wanted in shown(text):
+        if command.startswith("capgauze "):
+            continue
         where = room if re.search(r"\bexample\.c\b|\./example\b", command) else folder
         status, out, err = run(["bash", "-c", command], where, env)
         judge(f"{name}: {command}", (0, "".join(line + "\n" for line in wanted), ""), (status, out, err))

@@ -10,7 +10,6 @@ from hypothesis import given, settings
 from hypothesis import strategies as st
 
 import capgauze
-import strategies
 from commands import surroundings
 from helpers import EXAMPLES, ROOT
 
@@ -23,7 +22,11 @@ def equal(one, other):
     pandas.testing.assert_frame_equal(one.reset_index(drop=True), other.reset_index(drop=True))
 
 
-@given(st.lists(st.tuples(strategies.some_lines, st.booleans()), min_size=1, max_size=3), st.integers(1, 90), st.sampled_from((1, 2)))
+LINES = [line for path in sorted(EXAMPLES.iterdir()) for line in path.read_bytes().split()] + [b"", b"", b"0g", b"04010400"]
+some_lines = st.lists(st.sampled_from(LINES), max_size=6)
+
+
+@given(st.lists(st.tuples(some_lines, st.booleans()), min_size=1, max_size=3), st.integers(1, 90), st.sampled_from((1, 2)))
 @settings(max_examples=25)
 def test_cut_anywhere(tmp_path_factory, files, blocksize, edition):
     folder, whole = tmp_path_factory.mktemp("archive"), []

@@ -53,6 +53,8 @@ class TestHeader:
         assert {"capgauze_" + name for name in _library._ENTRIES} >= declared
 
     def test_names(self):
+        told = [_library.ffi.string(_library.lib.capgauze_refusal_name(number)).decode() for number in capgauze.Refusal]
+        assert told == [refusal.label for refusal in capgauze.Refusal]  # the header's own text
         assert [capgauze.NAMES[number] for number in (0, 1, 9, 15)] == ["accepted", "Truncated", "WrongWireType", "UnknownField"]
         assert len(capgauze.NAMES) == len(capgauze.Refusal) == len(_declared.REFUSAL_MEANINGS) + 1
         assert capgauze.Refusal.NO_ROOM == 5 and f"{capgauze.Refusal.NO_ROOM}" == str(capgauze.Refusal.NO_ROOM) == "5"
