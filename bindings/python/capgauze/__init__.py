@@ -45,3 +45,19 @@ from .editions import CANONICAL, HAS_EXTENSIONS, NOT_CANONICAL, graded, read_gra
 
 VARINT, LENGTH_DELIMITED = WireType.VARINT, WireType.LENGTH_DELIMITED
 THIRTY_TWO_BIT, SIXTY_FOUR_BIT = WireType.THIRTY_TWO_BIT, WireType.SIXTY_FOUR_BIT
+
+__all__ = [
+    "CANONICAL", "CORRECTION", "Early", "Entry", "GRADED_WORDS", "Grade", "Graded", "GradedHead", "HAS_EXTENSIONS",
+    "Head", "INDEX_WORDS", "Index", "Key", "LENGTH_DELIMITED", "LEVEL_WORDS", "LIMIT", "Level", "Levels", "NAMES",
+    "NOT_CANONICAL", "NO_KEY", "NotHexadecimal", "ORIGINAL", "Parts", "Picked", "RECORD_WORDS", "Read", "Record",
+    "Refusal", "Refused", "SIXTY_FOUR_BIT", "Several", "Sounding", "Step", "Supplier", "THIRTY_TWO_BIT", "VARINT",
+    "Value", "Varint", "Windy", "WireType", "WorkingCopy", "Written", "call", "corrected", "corrected_by",
+    "corrected_part", "dataframe", "dataset", "decode_key", "decode_value", "decode_varint", "decode_varint_capped",
+    "encode_key", "encode_message", "encode_varint", "encoded_len_varint", "field_bytes", "field_parts", "frames",
+    "graded", "i64_to_unsigned", "index_fits", "insert", "insert_payload", "key_len", "lent", "levels", "make_index",
+    "message", "pack", "payload_of", "pick", "pick_at", "pick_early", "pick_indexed", "prepend_key",
+    "prepend_message", "prepend_varint", "read_graded", "read_line", "read_message", "read_payload", "read_run",
+    "read_sounding", "records", "remove_record", "replace_payload", "room", "run_count", "run_value", "skip_field",
+    "sounding", "soundings", "step_at", "u64_to_signed", "unpack", "words", "write_corrected", "write_line",
+    "write_run",
+]

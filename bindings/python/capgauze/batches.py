@@ -8,12 +8,12 @@ from ._declared import GRADED_WORDS, LEVEL_WORDS, LIMIT, Grade
 from ._library import ffi, lib
 from ._optional import need
 from .stream import Frame
-from .refusals import NAMES, Refused
+from .refusals import NAMES, UNKNOWN, Refused
 
 if TYPE_CHECKING:
     import numpy as np
 
-REFUSALS = (*NAMES, "HEX")  # by the number that a batch has for each
+REFUSALS = (*NAMES, "HEX", UNKNOWN)  # by the number that a batch has for each
 HEX = len(NAMES)
 ROOM = 1 << 14  # levels; a longer sounding has a buffer of its own
 
@@ -63,7 +63,7 @@ def batches(frames: Iterable[Frame], edition: int, least: Grade) -> Iterator[Bat
             grade = answer.grade
         number = answer.number
         if number:
-            heads.extend((0, 0, 0, 0, number))
+            heads.extend((0, 0, 0, 0, number if number < HEX else HEX + 1))
         else:
             levels = answer.levels
             used += levels * width

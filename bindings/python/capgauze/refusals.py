@@ -1,11 +1,14 @@
 """Refusals, and how they are said."""
 from __future__ import annotations
 
-from typing import Mapping
+from typing import Mapping, Optional
 
 from ._declared import LIMIT, REFUSAL_MEANINGS, Refusal
 
+UNKNOWN = "Unknown"  # of a number that only a library of another version can answer
 NAMES: tuple[str, ...] = ("accepted", *(refusal.label for refusal in Refusal if refusal))
+
+_BY_NUMBER = {int(refusal): refusal for refusal in Refusal}
 
 # What a reader was reading, and why it was refused.
 READING: dict[str, str] = {
@@ -38,16 +41,17 @@ class Refused(ValueError):
     'a tag that stands more than once where one field of it is wanted'
     """
 
-    number: Refusal | None  # None for a line that is no hexadecimal, which the library never sees
+    number: Optional[int]  # a Refusal; or None for a line that is no hexadecimal, which the library never sees
     name: str
     carried: dict[str, int]
 
-    def __init__(self, number: int, carried: Mapping[str, int] | None = None, reading: str | None = None) -> None:
-        self.number, self.carried = Refusal(number), dict(carried or {})
-        self.name = self.number.label
+    def __init__(self, number: int, carried: Optional[Mapping[str, int]] = None, reading: Optional[str] = None) -> None:
+        known = _BY_NUMBER.get(int(number))
+        self.number, self.carried = number if known is None else known, dict(carried or {})
+        self.name = UNKNOWN if known is None else known.label
         listed = ", ".join(f"{key} {value}" for key, value in self.carried.items())
-        told = _sentence(self.number, reading, self.carried) if reading else listed
-        super().__init__(f"{self.name} ({self.number})" + (f": {told}" if told else ""))
+        told = _sentence(known, reading, self.carried) if reading and known else listed
+        super().__init__(f"{self.name} ({number})" + (f": {told}" if told else ""))
 
     def __reduce__(self) -> tuple[object, ...]:  # it has to reach other processes
         return _made_again, (type(self), self.args, self.__dict__)
@@ -55,7 +59,9 @@ class Refused(ValueError):
     @property
     def meaning(self) -> str:
         """What the header says of its number."""
-        return REFUSAL_MEANINGS[self.number.name] if self.number is not None else str(self)
+        if isinstance(self.number, Refusal):
+            return REFUSAL_MEANINGS[self.number.name]
+        return str(self) if self.number is None else "a number that the header does not have: the library is of another version"
 
 
 class NotHexadecimal(Refused):

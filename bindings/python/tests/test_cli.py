@@ -5,12 +5,13 @@ import io
 import itertools
 import json
 import os
+import pathlib
 import pty
 import re
 import subprocess
 
 import pytest
-from hypothesis import given
+from hypothesis import given, settings
 from hypothesis import strategies as st
 
 import capgauze
@@ -21,6 +22,7 @@ from commands import COMMAND, run, shell, surroundings
 from helpers import EXAMPLES, ROOT
 
 pandas = pytest.importorskip("pandas")
+PROGRAMS = pathlib.Path(os.environ.get("CAPGAUZE_PROGRAMS") or ROOT / "target/bin")
 
 
 def by_frame(text, separator):
@@ -54,6 +56,15 @@ class TestAsThePrograms:
         for line, wanted in examples:
             ran = shell(re.sub(r"\./(dump|soundings)", r"capgauze \1", line))
             assert (ran.status, ran.out, ran.error) == (0, re.sub("(?m)^    ", "", wanted), "")
+
+    @pytest.mark.skipif(not (PROGRAMS / "soundings").is_file(), reason="the programs are not built here")
+    @given(strategies.some_lines)
+    @settings(max_examples=15)
+    def test_the_programs_themselves(self, lines):
+        given = b"\n".join(line for line in lines * 3 if len(line) <= 4096)
+        for name in ("dump", "soundings"):
+            told = subprocess.run([str(PROGRAMS / name)], input=given, capture_output=True)
+            assert run(name, given=given).out.encode() == told.stdout
 
     def test_counts(self):
         ran = run("dump", "--count", "examples/damaged.hex", "-", given=b"04050000\n0g\n")

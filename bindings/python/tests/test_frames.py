@@ -2,6 +2,7 @@
 import io
 import os
 import threading
+from concurrent.futures import ThreadPoolExecutor
 
 import pytest
 from hypothesis import given
@@ -153,6 +154,13 @@ class TestTables:
         read = capgauze.levels([long, b"", long])
         assert len(read) == 80_000 and read.refused.frame.tolist() == [2]
         assert np.array_equal(read.pressure_pa, np.tile(1 + np.arange(40_000) % 1000, 2))
+
+    def test_threads_do_not_disturb_each_other(self):
+        sources = [[strategies.sounding_of(station, 0, [{1: station, 2: 2 * at} for at in range(50)])] * 200 for station in range(1, 5)]
+        with ThreadPoolExecutor(4) as pool:
+            read = list(pool.map(capgauze.levels, sources))
+        for station, found in enumerate(read, 1):
+            assert set(found.pressure_pa) == {station} and np.array_equal(found.temperature_c, np.tile(np.arange(50) / 10, 200))
 
     def test_a_dataset_goes_through_a_file(self, tmp_path):
         xarray = pytest.importorskip("xarray")

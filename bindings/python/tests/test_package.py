@@ -30,6 +30,11 @@ def test_every_function_has_an_example():
     assert without == {"lent", "room", "words"}
 
 
+def test_every_entry_has_its_name():
+    assert {name for name in _library._ENTRIES if name != "refusal_name"} <= set(capgauze.__all__)
+    assert all(hasattr(capgauze, name) for name in capgauze.__all__)
+
+
 def test_the_list():
     cases, differences = check_list.check()
     assert cases > 10_000
@@ -96,6 +101,11 @@ class TestRefused:
         assert (str(again), again.number, again.name, again.carried) == (str(caught.value), 1, "Truncated", caught.value.carried)
         no_hex = pickle.loads(pickle.dumps(capgauze.NotHexadecimal()))
         assert (type(no_hex), no_hex.number, no_hex.name) == (capgauze.NotHexadecimal, None, "HEX")
+
+    def test_a_number_of_another_version(self):
+        refused = capgauze.Refused(99)
+        assert (refused.number, refused.name, str(refused)) == (99, "Unknown", "Unknown (99)")
+        assert "another version" in refused.meaning and str(capgauze.Refused(99, {"place": 0}, "the key")) == "Unknown (99): place 0"
 
     def test_a_refused_call_holds_nothing(self):
         """A buffer may grow again, and a view be forgotten, while the refusal's traceback is kept."""
