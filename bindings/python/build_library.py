@@ -31,7 +31,6 @@ class Library(NamedTuple):
     header: pathlib.Path
     link: list[str]
     objects: list[str]
-    from_what: str
 
 
 def find() -> Library:
@@ -39,14 +38,14 @@ def find() -> Library:
     named = os.environ.get("CAPGAUZE_ARCHIVE")
     archive = pathlib.Path(named) if named else ROOT / "target/staticlib/libcapgauze_c.a"
     if archive.is_file():
-        return Library(HERE.parent / "c/capgauze.h", [], [str(archive.resolve())], str(archive))
+        return Library(HERE.parent / "c/capgauze.h", [], [str(archive.resolve())])
     if named:
         raise SystemExit(f"capgauze: there is no archive {named}: {NOT_BUILT}")
     folder, link = _asked("--variable=includedir"), _asked("--libs", "--static")
     if folder is None or link is None:
         raise SystemExit(f"capgauze: {NOT_BUILT}")
     searched = [f"-Wl,-rpath,{word[2:]}" for word in link.split() if word.startswith("-L")]
-    return Library(pathlib.Path(folder.strip()) / "capgauze.h", [*link.split(), *searched], [], "pkg-config")
+    return Library(pathlib.Path(folder.strip()) / "capgauze.h", [*link.split(), *searched], [])
 
 
 def _asked(*question: str) -> str | None:

@@ -60,14 +60,12 @@ def frame_of(line: Optional[bytes]) -> Frame:
         return NotHexadecimal()
 
 
-def blocks_of(file: Any, seen: Optional[Callable[[int], None]] = None) -> Iterator[bytes]:
-    """What a file has, in blocks, each as soon as it is there; `seen` is told how long each is."""
+def blocks_of(file: Any) -> Iterator[bytes]:
+    """What a file has, in blocks, each as soon as it is there."""
     read = getattr(file, "read1", file.read)
     while block := read(BLOCK):
         if not isinstance(block, bytes):
             raise TypeError("the file was not opened for reading bytes")
-        if seen:
-            seen(len(block))
         yield block
 
 

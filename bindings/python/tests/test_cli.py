@@ -134,6 +134,7 @@ class TestFailures:
         ran = run(*command, "--help")
         assert (ran.status, ran.error) == (0, "") and ran.out.startswith("usage: capgauze")
         assert max(map(len, ran.out.splitlines())) <= 100
+        assert command or all(re.search(rf"\b{int(refusal)}\s+{refusal.label}\b", ran.out) for refusal in capgauze.Refusal if refusal)
         for line, wanted in re.findall(r"^  \$ (.*)\n((?:  [^$\n].*\n?)+)", ran.out, re.M):  # its examples
             assert shell(line).out == re.sub("(?m)^  ", "", wanted).rstrip("\n") + "\n"
 

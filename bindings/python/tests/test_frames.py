@@ -1,4 +1,5 @@
 """Frames and soundings of files, pipes and bytes; as arrays and as tables."""
+import gzip
 import io
 import os
 import threading
@@ -29,7 +30,8 @@ class TestSources:
         wanted = plain(capgauze.soundings(ROWS))
         assert wanted[2:] == ["Repeated", "HEX"] and [sounding.station for sounding in wanted[:2]] == [10410, 10410]
         with open(ROWS) as opened_for_text:
-            for source in (str(ROWS), text, bytearray(text), memoryview(text), io.BytesIO(text), opened_for_text, text.rstrip(b"\n")):
+            packed = gzip.open(io.BytesIO(gzip.compress(text)))
+            for source in (str(ROWS), text, bytearray(text), memoryview(text), io.BytesIO(text), opened_for_text, text.rstrip(b"\n"), packed):
                 assert plain(capgauze.soundings(source)) == wanted
         assert plain(capgauze.soundings([bytes.fromhex(line.decode()) for line in text.split()[:3]])) == wanted[:3]
 

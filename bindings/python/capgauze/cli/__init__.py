@@ -8,14 +8,20 @@ from __future__ import annotations
 import argparse
 import signal
 import sys
+import textwrap
 from typing import Optional, Sequence
 
-from .._declared import PACKAGE_VERSION
+from .._declared import PACKAGE_VERSION, Refusal
 from .._optional import Missing
 from . import dump, explain, lookup, plot, soundings
 from .session import Failure, Session, Usage
 
-EPILOG = """exit status:
+_refusals = ", ".join(f"{refusal} {refusal.label}" for refusal in Refusal if refusal)
+_listed = textwrap.fill(_refusals, 80, initial_indent="  ", subsequent_indent="  ")
+EPILOG = f"""refusals:
+{_listed}
+
+exit status:
   0 if all was read and written, frames refused or not; 1 if not, and standard
   error says why; 2 for bad usage
 

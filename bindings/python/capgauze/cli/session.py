@@ -12,7 +12,6 @@ from typing import Any, BinaryIO, Callable, Iterator, NoReturn, Optional, TypeVa
 from ..refusals import Refused
 from ..stream import Frame, frame_of, lines
 
-
 T = TypeVar("T")
 
 
