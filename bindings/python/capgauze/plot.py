@@ -94,7 +94,7 @@ def draw(sounding: Union[Sounding, Graded]) -> Figure:
             _winds(panels[2], winds)
         _legend(panels[0], lines)
         count = f"{len(pressures)} level{'' if len(pressures) == 1 else 's'}"
-        below = count + (f", grade {sounding.grade.label}" if isinstance(sounding, Graded) else "")
+        below = count + (f", grade {sounding.grade.label}" if windy and isinstance(sounding, Graded) else "")
         panels[0].set_title(f"Station {sounding.station}, {launch_text(sounding.launch)}", loc="left", fontweight="bold", fontsize=13, pad=22)
         panels[0].annotate(below, (0, 1), xycoords="axes fraction", xytext=(0, 7), textcoords="offset points", fontsize=10, color="#555555")
         return made

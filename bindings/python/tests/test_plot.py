@@ -92,14 +92,17 @@ class TestCommand:
             assert one == committed
 
     def test_other_frames_and_forms(self, tmp_path):
-        assert run("plot", "--edition", "2", "--frame", "3", "examples/winds.hex", "-o", str(tmp_path / "x.png")).status == 0
+        assert run("plot", "--frame", "3", "examples/winds.hex", "-o", str(tmp_path / "x.png")).status == 0
         assert (tmp_path / "x.png").read_bytes().startswith(b"\x89PNG")
         for arguments, error in ((["--frame", "3", "examples/rows.hex"], "frame 3 is refused: Repeated (11)"),
                                  (["--frame", "4", "examples/rows.hex"], "frame 4 is refused: HEX: the line is not hexadecimal"),
                                  (["--frame", "9", "examples/rows.hex"], "examples/rows.hex: there is no frame 9"),
-                                 (["--edition", "2", "--least", "canonical", "--frame", "2", "examples/winds.hex"],
-                                  "frame 2 is refused: NotCanonical (14)")):
+                                 (["--least", "canonical", "--frame", "2", "examples/winds.hex"],
+                                  "frame 2 is refused: NotCanonical (14); --edition 1 takes it, without its wind")):
             ran = run("plot", *arguments, "-o", str(tmp_path / "no.svg"))
             assert (ran.status, ran.error) == (1, f"capgauze plot: {error}\n")
         assert run("plot", "examples/iced.hex", "-o", "/nowhere/x.svg").error == "capgauze plot: /nowhere/x.svg: No such file or directory\n"
         assert not (tmp_path / "no.svg").exists()
+        for edition, barbs in (("1", False), ("2", True)):
+            assert run("plot", "--edition", edition, "examples/winds.hex", "-o", str(tmp_path / f"{edition}.svg")).status == 0
+            assert ("Barbs" in (tmp_path / f"{edition}.svg").read_text()) == barbs

@@ -22,7 +22,7 @@ def add(commands: Any) -> None:
     made = command(commands, "plot", "a sounding drawn", DESCRIPTION, EPILOG, run)
     made.add_argument("-o", "--output", metavar="PICTURE", required=True, help="an .svg, .png or .pdf")
     made.add_argument("--frame", type=int, default=1, metavar="N", help="which frame, counted from 1; the first without it")
-    editions(made)
+    editions(made, usual=2)
     files(made, counted=False)
 
 
@@ -36,7 +36,8 @@ def run(session: Session, asked: argparse.Namespace) -> None:
         raise Failure(f"{'standard input' if name == '-' else name}: there is no frame {asked.frame}")
     thing = read(frame)
     if isinstance(thing, Refused):
-        raise Failure(f"frame {number} is refused: {thing}")
+        first = asked.edition == 2 and not isinstance(reader(1)(frame), Refused)
+        raise Failure(f"frame {number} is refused: {thing}" + ("; --edition 1 takes it, without its wind" if first else ""))
     save(thing, asked.output)
 
 

@@ -36,9 +36,9 @@ def add(commands: Any) -> None:
     files(made)
 
 
-def editions(made: argparse.ArgumentParser) -> None:
-    """The options that name an edition."""
-    made.add_argument("--edition", type=int, choices=(1, 2), default=1, help="1 without it; 2 has wind and a grade")
+def editions(made: argparse.ArgumentParser, usual: int = 1) -> None:
+    """The options that name an edition, and which it is without them."""
+    made.add_argument("--edition", type=int, choices=(1, 2), default=usual, help=f"{usual} without it; 2 has wind and a grade")
     made.add_argument("--least", choices=LEAST, help="the least grade that is taken, of edition 2; any without it")
 
 
