@@ -6,6 +6,7 @@ from typing import Callable, Iterator, NamedTuple, Optional
 
 from ._declared import LIMIT, Refusal, WireType
 from .answers import Graded, Record, Sounding, launch_text
+from .culprit import culprit
 from .editions import LEVEL_TAG
 from .messages import field_parts, records
 from .parts import decode_varint
@@ -152,6 +153,14 @@ def told(thing: Sounding | Graded) -> Iterator[str]:
 _VALUES = (("pressure", "Pa"), ("temperature", "C"), ("dew point", "C below it"), ("wind speed", "m/s"), ("wind direction", "degrees"))
 
 
+def _blamed(spans: list[Span], keys: list[int]) -> Iterator[Span]:
+    """The same spans, but those of the fields with these keys are bad."""
+    bad = False
+    for span in spans:
+        bad = span.start in keys if span.kind == "key" else bad
+        yield span._replace(kind="bad") if bad else span
+
+
 def explain(number: int, frame: Frame, style: Style = plain, edition: Optional[int] = None) -> str:
     """A frame, explained; with an edition as a sounding too, whose levels are marked in a layer of their own.
 
@@ -178,8 +187,15 @@ def explain(number: int, frame: Frame, style: Style = plain, edition: Optional[i
             level = layer(frame[record.value:record.value + record.length], record.value)
             inner += level.spans
             said += [style(f"level {at}, at {record.value}: {level.reason}", "bad")] if level.reason else []
-        layers.append(inner)
         thing = reader(edition)(frame)
-        said += [style(f"no sounding: {thing}: {thing.meaning}", "bad")] if isinstance(thing, Refused) else told(thing)
+        if isinstance(thing, Refused):
+            found = culprit(frame, edition)
+            where = f"; {found.said}" if found else ""
+            said.append(style(f"no sounding: {thing}: {thing.meaning}{where}", "bad"))
+            for spans in (outer.spans, inner):
+                spans[:] = _blamed(spans, found.keys if found else [])
+        else:
+            said += told(thing)
+        layers.append(inner)
     lines = [f"frame {number}: {head}", *rows(frame, layers, style), *(f"  {line}" for line in said)]
     return "\n".join(lines) + "\n"

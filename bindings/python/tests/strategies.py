@@ -74,6 +74,24 @@ def soundings(draw: Any, edition: int = 2) -> bytes:
     return sounding_of(draw(st.integers(1, 99_999)), draw(launch), draw(st.lists(level_fields(edition), max_size=6)))
 
 
+@st.composite
+def faulty_soundings(draw: Any) -> bytes:
+    """Good messages that are soundings, or nearly: fields twice, missing, of another type or out of their range."""
+    def fields(numbers: dict[int, int]) -> list[tuple[int, int, int, int]]:
+        out = []
+        for tag, number in sorted(numbers.items()):
+            kind = draw(st.sampled_from((0, 0, 0, 0, 0, 2)))
+            out += [(tag, kind, number % 2**32 if kind else number, 4 if kind else 0)] * draw(st.sampled_from((1, 1, 1, 1, 1, 0, 2)))
+        return out
+
+    levels = [capgauze.message(fields({**draw(level_fields()), **draw(st.dictionaries(st.integers(1, 6), words64, max_size=1))}))
+              for _ in range(draw(st.integers(0, 3)))]
+    head = fields({1: draw(st.sampled_from((1, 10_410, 99_999, 100_000, 0))), 2: 7})
+    starts = accumulate(map(len, levels), initial=0)
+    parts = [(3, 1, start, len(level)) for start, level in zip(starts, levels)] + draw(st.sampled_from(([], [], [(3, 0, 5, 0)], [(8, 0, 5, 0)])))
+    return capgauze.message([*head, *parts], b"".join(levels))
+
+
 some_frames = st.lists(st.one_of(soundings(), damaged(soundings()), any_bytes), max_size=8)
 no_frames = st.sampled_from([b"", b"0", b"0g", b"04 01", b"0401\r", b"\xff"])  # but for the first
 some_lines = st.lists(st.one_of(soundings().map(lambda s: s.hex().encode()), soundings().map(lambda s: s.hex().upper().encode()),

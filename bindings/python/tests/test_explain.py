@@ -5,12 +5,15 @@ import re
 import subprocess
 
 import pytest
-from hypothesis import given
+from hypothesis import given, settings
+from hypothesis import strategies as st
 
 import capgauze
 import strategies
+from capgauze.culprit import culprit
 from capgauze.explain import WIDTH, explain, layer
 from capgauze.refusals import Refusal
+from capgauze.stream import reader
 from commands import COMMAND, run, surroundings
 from helpers import EXAMPLES, MESSAGE, ROOT
 
@@ -44,6 +47,32 @@ def test_the_rows_have_the_bytes(s):
     assert bytes.fromhex("".join(shown)) == s
     for row in shown:
         assert len(row.split()) <= WIDTH
+
+
+@given(strategies.faulty_soundings(), st.sampled_from((1, 2)))
+@settings(max_examples=300)
+def test_the_culprit_is_the_first(s, edition):
+    """What stands before it is a sounding, and with it the refusal is the one told."""
+    told = reader(edition)(s)
+    found = culprit(s, edition)
+    if not isinstance(told, capgauze.Refused):
+        assert found is None
+        return
+    assert found.said and (found.keys == []) == (told.number == Refusal.MISSING_FIELD)
+    fields = capgauze.records(s)
+    if found.level is None:
+        assert set(found.keys) <= {record.key for record in fields}
+    else:
+        levels = [record for record in fields if record.tag == 3]
+        head = [record for record in fields if record.tag < 3]
+        for count, number in ((found.level - 1, None), (found.level, told.number)):
+            part = reader(edition)(capgauze.message(head + levels[:count], s))
+            assert (part.number if isinstance(part, capgauze.Refused) else None) == number
+        blamed = levels[found.level - 1]
+        assert all(blamed.value <= key < blamed.value + blamed.length for key in found.keys)
+        assert f"level {found.level}: " in found.said
+    text = explain(1, s, edition=edition)
+    assert found.said in text and ("!!" in text) == bool(found.keys)
 
 
 class TestDamaged:
@@ -80,7 +109,12 @@ def test_soundings():
     iced = bytes.fromhex((EXAMPLES / "iced.hex").read_text())
     text = explain(1, iced, edition=1)
     assert "level 3: pressure 40000 Pa, temperature not measured, dew point not measured" in text
-    assert "no sounding: Repeated (11): a tag that stands more than once" in explain(1, bytes.fromhex("040100010400"), edition=1)
+    twice = explain(1, bytes.fromhex("040100010400"), edition=1)
+    assert twice.splitlines()[2].strip() == "!! !! !! !! K  V"
+    assert twice.splitlines()[-1] == ("  no sounding: Repeated (11): a tag that stands more than once where one field of it is wanted; "
+                                      "the station, tag 1")
+    assert "level 1: the temperature, tag 2, is 2,002" in explain(1, bytes.fromhex("040104000505046404D20E"), edition=1)
+    assert "MissingField (13)" in explain(1, b"", edition=1) and "; no station, tag 1" in explain(1, b"", edition=1)
     assert "level 1, at 6: Truncated (1)" in explain(1, bytes.fromhex("04010400050104"), edition=2)
     assert "grade NotCanonical" in explain(1, bytes.fromhex((EXAMPLES / "winds.hex").read_text().split()[1]), edition=2)
 
