@@ -116,8 +116,8 @@ class TestFailures:
         ("capgauze soundings --format netcdf", 2, "capgauze soundings: --output FILE is for --format netcdf, which needs it\n"),
         ("capgauze soundings --format netcdf -o /nowhere/x.nc </dev/null", 1, "capgauze soundings: /nowhere/x.nc: "),
         ("capgauze correct - -", 1, "capgauze correct: standard input: it cannot be both ORIGINAL and CORRECTION\n"),
-        ("yes 0401 | head -n 200000 >/tmp/capgauze-many.$$; capgauze dump /tmp/capgauze-many.$$ | head -n 1 >/dev/null; "
-         "s=${PIPESTATUS[0]}; rm /tmp/capgauze-many.$$; exit $s", 141, "")])
+        ("many=$(mktemp); yes 0401 | head -n 200000 >$many; capgauze dump $many | head -n 1 >/dev/null; s=${PIPESTATUS[0]}; rm $many; exit $s",
+         141, "")])
     def test_streams_and_usage(self, line, status, error):
         ran = shell(line)
         assert (ran.status, ran.error[:len(error)] if error.endswith(": ") else ran.error) == (status, error)
