@@ -188,6 +188,7 @@ def _winds(axes: Any, levels: list[Windy]) -> None:
     axes.set_xlim(-1, 1)
     axes.set_title("wind, knots", fontsize=9, color="#555555")
     bottom, top = axes.get_ylim()
+    axes.vlines(0, top, bottom, color="#cccccc", linewidth=0.8, zorder=0)
     taken: list[float] = []
     for level in levels:
         height = level.pressure_pa / 100
@@ -199,7 +200,7 @@ def _winds(axes: Any, levels: list[Windy]) -> None:
                           color="#555555")
         elif free:
             speed, angle = level.wind_speed_ms * KNOTS, radians(level.wind_direction_deg)
-            axes.barbs(0, height, -speed * sin(angle), -speed * cos(angle), length=7, linewidth=1, pivot="middle")
+            axes.barbs(0, height, -speed * sin(angle), -speed * cos(angle), length=7, linewidth=1, pivot="tip", clip_on=False)
         taken += [height] if free else []
 
 
