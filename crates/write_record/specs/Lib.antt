@@ -1,3 +1,4 @@
+pub mod Mixed
 pub mod Records
 pub mod RecordLaws
 pub mod Taken

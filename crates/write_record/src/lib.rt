@@ -3,9 +3,12 @@
 ghost use mathlib.Core.Path.{_≡_};
 ghost use lib.ListN.{length};
 ghost use Rattle.wire.specs.Varint.{encode};
-ghost use Rattle.wire.specs.Table.{good};
+ghost use Prim.Native.Nat.{_≤_, _<_};
+ghost use Rattle.wire.specs.Table.{goodHead, good};
 ghost use Rattle.write_record.specs.Records.{weighValue, weigh};
+ghost use Rattle.write_record.specs.Mixed.{mostOf, leastLen, moreLen, numberIn, ifNumber};
 ghost use Rattle.write_record.specs.Taken.{recordIn};
+use wire::LAST_TAG;
 use wire::RECORD_WORDS;
 use wire::Record;
 use wire::Refusal;
@@ -83,6 +86,100 @@ fn weigh_value(size: u32, kind: u64, value: u64, length: u64) -> Weight
     Weight::Bad(Refusal::BadRecord)
 }
 
+// ---- the same with no branch on the type
+
+// The highest value of a type.
+// INLINE: an array and not tests, of which the compiler makes branches.
+fn most_of(size: u32, kind: u64) -> u64
+    requires { ⌜ kind < 4 ⌝ }
+    ensures { λ r. ⌜ r ≡ mostOf size kind ⌝ }
+{
+    let most = [
+        0xffff_ffff_ffff_ffff,
+        size as u64,
+        0xffff_ffff,
+        0xffff_ffff_ffff_ffff,
+    ];
+    let k = kind as usize;
+    most[k]
+}
+
+// The least length of a type.
+fn least_len(kind: u64) -> u64
+    requires { ⌜ kind < 4 ⌝ }
+    ensures { λ r. ⌜ r ≡ leastLen kind ⌝ }
+{
+    if kind < 2 {
+        return 0;
+    }
+    4 * kind - 4
+}
+
+// By how much the length may be more.
+fn more_len(size: u32, kind: u64, value: u64) -> u64
+    requires { ⌜ value ≤ mostOf size kind ⌝ }
+    ensures { λ r. ⌜ r ≡ moreLen size kind value ⌝ }
+{
+    if kind == 1 {
+        return (size as u64) - value;
+    }
+    0
+}
+
+// The number that is written as a varint, where there is one.
+fn number_in(kind: u64, value: u64, length: u64) -> u64
+    ensures { λ r. ⌜ r ≡ numberIn kind value length ⌝ }
+{
+    if kind == 0 {
+        return value;
+    }
+    length
+}
+
+fn if_number(kind: u64, n: usize) -> usize
+    ensures { λ r. ⌜ r ≡ ifNumber kind n ⌝ }
+{
+    if kind < 2 {
+        return n;
+    }
+    0
+}
+
+// INLINE: for records whose types no branch foresees.
+fn weigh_mixed(size: u32, kind: u64, value: u64, length: u64) -> Weight
+    ensures { λ w. ⌜ w ≡ weighValue size kind value length ⌝ }
+{
+    if 3 < kind {
+        return Weight::Bad(Refusal::BadRecord);
+    }
+    if most_of(size, kind) < value {
+        return Weight::Bad(Refusal::BadRecord);
+    }
+    let least = least_len(kind);
+    if length < least {
+        return Weight::Bad(Refusal::BadRecord);
+    }
+    if more_len(size, kind, value) < length - least {
+        return Weight::Bad(Refusal::BadRecord);
+    }
+    let n = if_number(
+        kind,
+        varint_write::count_len(number_in(kind, value, length)),
+    );
+    Weight::Bytes(n + length as usize)
+}
+
+fn weigh_either(size: u32, kind: u64, value: u64, length: u64, mixed: bool) -> Weight
+    ensures { λ w. ⌜ w ≡ weighValue size kind value length ⌝ }
+{
+    if mixed {
+        return weigh_mixed(size, kind, value, length);
+    }
+    weigh_value(size, kind, value, length)
+}
+
+// ---- a whole record
+
 // A good record over a source of size bytes.
 pub fn is_good(size: u32, r: Record) -> bool
     ensures { λ b. ⌜ b ≡ good size r ⌝ }
@@ -93,15 +190,28 @@ pub fn is_good(size: u32, r: Record) -> bool
     }
 }
 
-// A record behind one of tag prev, over a source of size bytes. Its key is measured without the type: no limit lies between two types of
-// one tag.
-pub fn weigh_record(size: u32, prev: u64, r: Record) -> Weight
+// Its tag and its key. No key is all ones, and one more is 0: one test says both.
+fn has_head(size: u32, tag: u64, key: u64) -> bool
+    ensures { λ b. ⌜ b ≡ goodHead size tag key ⌝ }
+{
+    if LAST_TAG < tag {
+        return false;
+    }
+    if std::num::wrapping_add_u64(key, 1) <= (size as u64) {
+        return true;
+    }
+    false
+}
+
+// A record behind one of tag prev, over a source of size bytes; mixed says by which way its value is weighed. Its key is measured without the type:
+// no limit lies between two types of one tag.
+pub fn weigh_record(size: u32, prev: u64, r: Record, mixed: bool) -> Weight
     ensures { λ w. ⌜ w ≡ weigh size prev r ⌝ }
 {
-    if !wire::good_head(size as usize, r.tag, r.key) {
+    if !has_head(size, r.tag, r.key) {
         return Weight::Bad(Refusal::BadRecord);
     }
-    match weigh_value(size, r.kind, r.value, r.length) {
+    match weigh_either(size, r.kind, r.value, r.length, mixed) {
         Weight::Bad(why) => Weight::Bad(why),
         Weight::Bytes(n) => {
             if r.tag < prev {

@@ -1,12 +1,13 @@
 -- `write_message::prepend_value` meets its contract.
-use Prim.Native.Nat.{_+_, _≤_}
+use Prim.Native.Nat.{_+_, _-_, _≤_}
 use mathlib.Core.Path.{_≡_, refl, ap}
 use native.Mathlib.Omega.{arith}
-use lib.ListN.{length}
+use lib.ListN.{length, take, drop}
 use Rattle.wire.specs.Varint.{encode}
 use Rattle.write_record.specs.RecordLaws.{bytes-varint, bytes-four, bytes-eight}
 use Rattle.place.specs.Spans.{spans-as}
-use Rattle.write_message.proofs.Puts.{put-up-to, payload-size, prepend-payload}
+use Rattle.write_message.proofs.Parts.{same-size}
+use Rattle.write_message.proofs.Puts.{fixed-put, payload-size, payload-before}
 use borrow.Author.Needs.{needs}
 use Rattle.write_message.proofs.prepend_value.Statement.{statement}
 use Rattle.write_message.proofs.prepend_value.Tie as tie
@@ -37,18 +38,23 @@ same-length : tie.Need-same-length
 same-length c = search needs
 
 returns : tie.Need-returns
-returns c = spans-as (bytes-varint _ _ (c .before .before .before .before .if2 .taken)) (c .before .before .prepend-number .ensures)
+returns c =
+    spans-as (bytes-varint _ _ (c .before .before .before .before .if2 .taken)) (c .before .before .prepend-number .ensures)
 
 sub-start : tie.Need-sub-start
 sub-start c = omega (arith, payload-fits c)
 
-put-part-requires : tie.Need-put-part-requires
-put-part-requires c κs = search needs
+put-inside-requires : tie.Need-put-inside-requires
+put-inside-requires c κs =
+    let a = c .before .before .before .before .before in
+    (a .pre .0 .payload (omega arith), omega (arith, payload-fits (c .before), a .pre .2))
 
 prepend-number-requires-2 : tie.Need-prepend-number-requires-2
 prepend-number-requires-2 c κs =
     let a = c .before .before .before .before .before .before .before .before .before in
-    omega (arith, a .pre .2, payload-fits (c .before .before .before .before .before))
+    let xs = take (a .args .r .length) (drop (a .args .r .value) (a .args .source .now)) in
+    let e = same-size (a .args .buf .now) (a .args .end - a .args .r .length) xs (c .before .before .before .put-inside .ensures) in
+    (omega (arith, payload-fits (c .before .before .before .before .before)), omega (arith, a .pre .2, e))
 
 same-length-2 : tie.Need-same-length-2
 same-length-2 c = search needs
@@ -56,14 +62,14 @@ same-length-2 c = search needs
 returns-2 : tie.Need-returns-2
 returns-2 c =
     let a = c .before .before .before .before .before .before .before .before .before .before .before .before in
-    prepend-payload _ _ _ (a .pre .0) (omega arith) (a .pre .1) (a .pre .2) refl
-    (c .before .before .before .before .before .before .put-part .ensures) (c .before .before .prepend-number2 .ensures)
+    let p = c .before .before .before .before .before .before in
+    payload-before _ _ _ (a .pre .0) (omega arith) (a .pre .1) refl (p .put-inside .ensures) (c .before .before .prepend-number2 .ensures)
 
-sub-put-fixed : tie.Need-sub-put-fixed
-sub-put-fixed c = omega (arith, four-fits (c .before))
+sub-put-exact : tie.Need-sub-put-exact
+sub-put-exact c = omega (arith, four-fits (c .before))
 
-put-fixed-requires : tie.Need-put-fixed-requires
-put-fixed-requires c κs = search needs
+put-exact-requires : tie.Need-put-exact-requires
+put-exact-requires c κs = omega (arith, four-fits (c .before), c .before .before .before .before .before .pre .2)
 
 sub-result : tie.Need-sub-result
 sub-result c = omega (arith, four-fits (c .before .before .before .before))
@@ -73,15 +79,16 @@ same-length-3 c = search needs
 
 returns-3 : tie.Need-returns-3
 returns-3 c =
-    let far = c .before .before .before .before .before .before .before .before in
-    put-up-to _ _ (bytes-four _ _ (c .before .before .before .before .if3 .taken)) (c .before .before .put-fixed .ensures) _
-    (omega (arith, four-fits (c .before .before .before .before))) (far .pre .2)
+    let a = c .before .before .before .before .before .before .before .before .args in
+    let f = c .before .before .before .before in
+    fixed-put (a .buf .now) (a .end - 4) 4 (a .r .value) (bytes-four _ _ (f .if3 .taken)) (omega (arith, four-fits f))
+    (c .before .before .put-exact .ensures)
 
-sub-put-fixed-2 : tie.Need-sub-put-fixed-2
-sub-put-fixed-2 c = omega (arith, eight-fits (c .before))
+sub-put-exact-2 : tie.Need-sub-put-exact-2
+sub-put-exact-2 c = omega (arith, eight-fits (c .before))
 
-put-fixed-requires-2 : tie.Need-put-fixed-requires-2
-put-fixed-requires-2 c κs = search needs
+put-exact-requires-2 : tie.Need-put-exact-requires-2
+put-exact-requires-2 c κs = omega (arith, eight-fits (c .before), c .before .before .before .before .before .pre .2)
 
 sub-result-2 : tie.Need-sub-result-2
 sub-result-2 c = omega (arith, eight-fits (c .before .before .before .before))
@@ -91,9 +98,10 @@ same-length-4 c = search needs
 
 returns-4 : tie.Need-returns-4
 returns-4 c =
-    let far = c .before .before .before .before .before .before .before .before in
-    put-up-to _ _ (bytes-eight _ _ (last-kind (c .before .before .before .before))) (c .before .before .put-fixed2 .ensures) _
-    (omega (arith, eight-fits (c .before .before .before .before))) (far .pre .2)
+    let a = c .before .before .before .before .before .before .before .before .args in
+    let f = c .before .before .before .before in
+    fixed-put (a .buf .now) (a .end - 8) 8 (a .r .value) (bytes-eight _ _ (last-kind f)) (omega (arith, eight-fits f))
+    (c .before .before .put-exact2 .ensures)
 
 pub prepend-value-spec : {M : Type 1} → statement M
 prepend-value-spec =
@@ -103,17 +111,17 @@ prepend-value-spec =
     same-length
     returns
     sub-start
-    put-part-requires
+    put-inside-requires
     prepend-number-requires-2
     same-length-2
     returns-2
-    sub-put-fixed
-    put-fixed-requires
+    sub-put-exact
+    put-exact-requires
     sub-result
     same-length-3
     returns-3
-    sub-put-fixed-2
-    put-fixed-requires-2
+    sub-put-exact-2
+    put-exact-requires-2
     sub-result-2
     same-length-4
     returns-4)

@@ -12,10 +12,10 @@ use Rattle.write_message.proofs.put_all.Statement.{statement}
 use Rattle.write_message.proofs.put_all.Tie as tie
 
 abbrev Inv-loop : tie.InvT-loop
-Inv-loop buf₀ source table count records at₀ prev₀ i₀ buf at prev i = Forward buf₀ source table count buf at prev i
+Inv-loop buf₀ source table count records mixed at₀ prev₀ i₀ buf at prev i = Forward buf₀ source table count buf at prev i
 
 abbrev μ-loop : tie.MeasureT-loop
-μ-loop buf₀ source table count records at₀ prev₀ i₀ buf at prev i = count - i
+μ-loop buf₀ source table count records mixed at₀ prev₀ i₀ buf at prev i = count - i
 
 mul-records : tie.Need-mul-records Inv-loop μ-loop
 mul-records c = omega (arith, c .before .before .before .pre .0 .count)
@@ -29,6 +29,9 @@ part-records-start c = search needs
 part-records-end : tie.Need-part-records-end Inv-loop μ-loop
 part-records-end c = omega (arith, c .before .before .before .pre .0 .count)
 
+is-mixed-requires : tie.Need-is-mixed-requires Inv-loop μ-loop
+is-mixed-requires c κs = search needs
+
 loop-holds : tie.Need-loop-holds Inv-loop μ-loop
 loop-holds c = forward-start _ _ _ _
 
@@ -36,10 +39,10 @@ record-at-requires : tie.Need-record-at-requires Inv-loop μ-loop
 record-at-requires c κs = search needs
 
 -- a record of the part is that of the table
-there : (c : tie.After-record-at Inv-loop μ-loop) → let a = c .before .before .before .before .before .before .before in
+there : (c : tie.After-record-at Inv-loop μ-loop) → let a = c .before .before .before .before .before .before .before .before in
     c .record-at .result ≡ recordAt (a .args .table .now) (c .before .before .loop .i)
 there c =
-    let a = c .before .before .before .before .before .before .before in
+    let a = c .before .before .before .before .before .before .before .before in
     c .record-at .ensures
     ∙ record-front (a .args .table .now) (recordWords * a .args .count - 0) (a .args .count) (c .before .before .loop .i) (omega arith)
     (c .before .loop-test .taken) (a .pre .0 .count)
@@ -47,7 +50,7 @@ there c =
 put-record-requires : tie.Need-put-record-requires Inv-loop μ-loop
 put-record-requires c κs =
     let l = c .before .before in
-    let a = l .before .before .before .before .before .before in
+    let a = l .before .before .before .before .before .before .before in
     forward-one (a .pre .0) (a .pre .1) (l .before .loop .inv) (l .loop-test .taken) (there (c .before))
 
 add-i : tie.Need-add-i Inv-loop μ-loop
@@ -60,7 +63,7 @@ loop-again : tie.Need-loop-again Inv-loop μ-loop
 loop-again c =
     let r = c .before .before .before .before in
     let l = r .before in
-    let a = l .before .before .before .before .before .before in
+    let a = l .before .before .before .before .before .before .before in
     forward-more (a .pre .0) (a .pre .1) (l .before .loop .inv) (l .loop-test .taken) (there r) (c .before .before .put-record .ensures)
 
 same-length : tie.Need-same-length Inv-loop μ-loop
@@ -79,6 +82,7 @@ put-all-spec =
     sub-records
     part-records-start
     part-records-end
+    is-mixed-requires
     loop-holds
     record-at-requires
     put-record-requires

@@ -20,10 +20,10 @@ put-number-requires c κs =
     let a = c .before .before .before .before .before in
     omega (arith, whole-size (a .args .source .now) (a .args .prev) (a .args .r) (a .pre .0), a .pre .2)
 
-put-value-requires : tie.Need-put-value-requires
-put-value-requires c κs =
-    let k = c .before .before .before .put-number .ensures in
-    let a = c .before .before .before .before .before .before .before .before .before in
+put-mixed-value-requires : tie.Need-put-mixed-value-requires
+put-mixed-value-requires c κs =
+    let k = c .before .before .before .before .put-number .ensures in
+    let a = c .before .before .before .before .before .before .before .before .before .before in
     (a .pre .0, omega (arith, whole-size (a .args .source .now) (a .args .prev) (a .args .r) (a .pre .0), a .pre .2, k .reach, spans-length k))
 
 same-length : tie.Need-same-length
@@ -31,9 +31,24 @@ same-length c = search needs
 
 returns : tie.Need-returns
 returns c =
-    let far = c .before .before .before .before .before .before .before .before .before .before .before .before in
-    spans-as (whole _ _ _ (far .pre .0))
-    (spans-behind (c .before .before .before .before .before .before .put-number .ensures) (c .before .before .put-value .ensures))
+    let k = c .before .before .before .before .before .before .before in
+    let far = k .before .before .before .before .before .before in
+    spans-as (whole _ _ _ (far .pre .0)) (spans-behind (k .put-number .ensures) (c .before .before .put-mixed-value .ensures))
+
+put-value-requires : tie.Need-put-value-requires
+put-value-requires c κs =
+    let k = c .before .before .before .before .put-number .ensures in
+    let a = c .before .before .before .before .before .before .before .before .before .before in
+    (a .pre .0, omega (arith, whole-size (a .args .source .now) (a .args .prev) (a .args .r) (a .pre .0), a .pre .2, k .reach, spans-length k))
+
+same-length-2 : tie.Need-same-length-2
+same-length-2 c = search needs
+
+returns-2 : tie.Need-returns-2
+returns-2 c =
+    let k = c .before .before .before .before .before .before .before in
+    let far = k .before .before .before .before .before .before in
+    spans-as (whole _ _ _ (far .pre .0)) (spans-behind (k .put-number .ensures) (c .before .before .put-value .ensures))
 
 pub put-record-spec : {M : Type 1} → statement M
 put-record-spec =
@@ -43,6 +58,9 @@ put-record-spec =
     mul-put-number
     add-put-number
     put-number-requires
-    put-value-requires
+    put-mixed-value-requires
     same-length
-    returns)
+    returns
+    put-value-requires
+    same-length-2
+    returns-2)

@@ -6,10 +6,10 @@ use Rattle.write_message.proofs.weigh.Statement.{statement}
 use Rattle.write_message.proofs.weigh.Tie as tie
 
 abbrev Inv-loop : tie.InvT-loop
-Inv-loop source table count most records size left₀ prev₀ i₀ left prev i = Weighing most source table count left prev i
+Inv-loop source table count most records size mixed left₀ prev₀ i₀ left prev i = Weighing most source table count left prev i
 
 abbrev μ-loop : tie.MeasureT-loop
-μ-loop source table count most records size left₀ prev₀ i₀ left prev i = count - i
+μ-loop source table count most records size mixed left₀ prev₀ i₀ left prev i = count - i
 
 returns : tie.Need-returns Inv-loop μ-loop
 returns c = source-long _ _ _ _ (c .if1 .taken)
@@ -20,11 +20,14 @@ returns-2 c = count-above _ _ _ _ (c .before .if1 .left) (c .if2 .taken)
 cast-size : tie.Need-cast-size Inv-loop μ-loop
 cast-size c = search needs
 
+is-mixed-requires : tie.Need-is-mixed-requires Inv-loop μ-loop
+is-mixed-requires c κs = search needs
+
 add-left : tie.Need-add-left Inv-loop μ-loop
 add-left c = search needs
 
 loop-holds : tie.Need-loop-holds Inv-loop μ-loop
-loop-holds c = weigh-start _ _ _ _ (c .before .if1 .left) (c .if2 .left)
+loop-holds c = weigh-start _ _ _ _ (c .before .before .if1 .left) (c .before .if2 .left)
 
 record-at-requires : tie.Need-record-at-requires Inv-loop μ-loop
 record-at-requires c κs = search needs
@@ -70,6 +73,7 @@ weigh-spec =
     returns
     returns-2
     cast-size
+    is-mixed-requires
     add-left
     loop-holds
     record-at-requires

@@ -14,18 +14,18 @@ use borrow.Author.Needs.{needs}
 use Rattle.write_record.proofs.weigh_record.Statement.{statement}
 use Rattle.write_record.proofs.weigh_record.Tie as tie
 
-good-head-requires : tie.Need-good-head-requires
-good-head-requires c κs = search needs
+has-head-requires : tie.Need-has-head-requires
+has-head-requires c κs = search needs
 
 returns : tie.Need-returns
-returns c = sym (weigh-bad _ _ _ _ (judge-bad _ _ _ (bad-head _ _ (sym (c .before .good-head .ensures) ∙ not-true _ (c .if1 .taken)))))
+returns c = sym (weigh-bad _ _ _ _ (judge-bad _ _ _ (bad-head _ _ (sym (c .before .has-head .ensures) ∙ not-true _ (c .if1 .taken)))))
 
 -- its tag and its key are good
 headed : (c : tie.Else1) → let a = c .before .before .args in goodHead (a .size) (a .r .tag) (a .r .key) ≡ true
-headed c = sym (c .before .good-head .ensures) ∙ not-false _ (c .if1 .left)
+headed c = sym (c .before .has-head .ensures) ∙ not-false _ (c .if1 .left)
 
-weigh-value-requires : tie.Need-weigh-value-requires
-weigh-value-requires c κs = search needs
+weigh-either-requires : tie.Need-weigh-either-requires
+weigh-either-requires c κs = search needs
 
 enum-known-why : tie.Need-enum-known-why
 enum-known-why c = search needs
@@ -36,7 +36,7 @@ enum-known-n c = search needs
 -- its value is good, and then all of it
 valued : (c : tie.After-n) → let r = c .before .before .before .before .before .args .r in let size = c .before .before .before .before .before .args .size in
     (goodValue size (r .kind) (r .value) (r .length) ≡ true) × (c .n .given .0 .0 ≡ valueSize (r .kind) (r .value) (r .length))
-valued c = value-good _ _ _ _ _ (c .before .before .weigh-value .ensures) (c .n .given .1)
+valued c = value-good _ _ _ _ _ (c .before .before .weigh-either .ensures) (c .n .given .1)
 
 sound : (c : tie.After-n) → let a = c .before .before .before .before .before .args in good (a .size) (a .r) ≡ true
 sound c = good-head _ _ (headed (c .before .before .before)) ∙ valued c .0
@@ -67,7 +67,7 @@ add-t17 c =
 
 returns-3 : tie.Need-returns-3
 returns-3 c =
-    let v = value-bad _ _ _ _ _ (c .before .before .before .weigh-value .ensures) (c .before .why .given .1) in
+    let v = value-bad _ _ _ _ _ (c .before .before .before .weigh-either .ensures) (c .before .why .given .1) in
     ap Bad (v .1) ∙ sym (weigh-bad _ _ _ _ (judge-bad _ _ _ (good-head _ _ (headed (c .before .before .before .before)) ∙ v .0)))
 
 returns-4 : tie.Need-returns-4
@@ -80,9 +80,9 @@ pub weigh-record-spec : {M : Type 1} → statement M
 weigh-record-spec =
     tie.close
     (tie.spec
-    good-head-requires
+    has-head-requires
     returns
-    weigh-value-requires
+    weigh-either-requires
     enum-known-why
     enum-known-n
     returns-2
