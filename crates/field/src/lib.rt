@@ -1,6 +1,7 @@
 // One field under a cap: its key, then its value; and one step of a message. From src/encoding/mod.rs and opaque.rs of bilrost.
 ghost use mathlib.Core.Path.{_≡_};
-ghost use Rattle.wire.specs.Reading.{fieldAt, stepAt};
+ghost use Prim.Native.Nat.{_≤_};
+ghost use Rattle.wire.specs.Reading.{wireOf, valueAt, fieldAt, stepAt};
 use wire::Field;
 use wire::FieldFound;
 use wire::KeyFound;
@@ -8,8 +9,27 @@ use wire::Refusal;
 use wire::Stepped;
 use wire::ValueFound;
 
+// A value that is no number. All of them need a byte.
+// INLINE: that test keeps the compiler from a table of jumps, with which X, whose types are in random order, takes 1.15 times as long.
+fn value_behind(s: &[u8], at: usize, end: usize, kind: u64) -> ValueFound
+    requires { ⌜ 1 ≤ kind ⌝ }
+    ensures { λ r. ⌜ r ≡ valueAt (now (s .entry)) end at (wireOf kind) ⌝ }
+{
+    if s.len() <= at {
+        return ValueFound::Refused(Refusal::Truncated);
+    }
+    if kind == 1 {
+        return field_value::payload_at(s, at, end);
+    }
+    if kind == 2 {
+        return field_value::four_at(s, at, end);
+    }
+    field_value::eight_at(s, at, end)
+}
+
 // A key, then its value. The place after it may be past the end. This is for the message reader's loop; other callers take step_from.
-// INLINE: it has one caller, so that it is folded into that loop; called, it takes 1.6 times the instructions. The kind is told by two tests.
+// INLINE: it has one caller, so that it is folded into that loop; called, it takes 1.6 times the instructions. A number is told first: with the kind told by
+// two tests, B takes 1.12 times the instructions, V1 1.06 times.
 pub fn decode_field(s: &[u8], at: usize, end: usize, last: u32) -> FieldFound
     ensures { λ r. ⌜ r ≡ fieldAt (now (s .entry)) end at last ⌝ }
 {
@@ -18,18 +38,10 @@ pub fn decode_field(s: &[u8], at: usize, end: usize, last: u32) -> FieldFound
         KeyFound::Got(key, q) => {
             let wire = key.wire;
             let kind = field_key::wire_number(wire);
-            let found = if kind < 2 {
-                if kind == 0 {
-                    field_value::number_at(s, q, end)
-                } else {
-                    field_value::payload_at(s, q, end)
-                }
+            let found = if kind == 0 {
+                field_value::number_at(s, q, end)
             } else {
-                if kind == 2 {
-                    field_value::four_at(s, q, end)
-                } else {
-                    field_value::eight_at(s, q, end)
-                }
+                value_behind(s, q, end, kind)
             };
             match found {
                 ValueFound::Refused(r) => FieldFound::Refused(r),

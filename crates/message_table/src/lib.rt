@@ -93,21 +93,22 @@ fn known_value(s: &[u8], at: usize, kind: u64) -> Words
     requires { ⌜ Valued (now s) at kind ⌝ }
     ensures { λ r. ⌜ Worded (now (s .entry)) at kind (r .value) (r .length) (r .next) ⌝ }
 {
-    if kind < 2 {
+    if kind == 0 {
         let v = known_varint(s, at);
-        let value = v.value;
+        return Words {
+            value: v.value,
+            length: 0,
+            next: v.next,
+        };
+    }
+    if kind == 1 {
+        let v = known_varint(s, at);
+        let length = v.value;
         let next = v.next;
-        if kind == 0 {
-            return Words {
-                value: value,
-                length: 0,
-                next: next,
-            };
-        }
         return Words {
             value: next as u64,
-            length: value,
-            next: next + (value as usize),
+            length: length,
+            next: next + (length as usize),
         };
     }
     if kind == 2 {

@@ -141,3 +141,16 @@ two-byte s at h g b c =
     let e : getD s at 0 + 128 * getD s (at + 1) 0 ≡ getD s at 0 + getD s (at + 1) 0 * 128 = omega arith in
     let q : at + 2 ≡ at + 1 + 1 = omega arith in
     two-bytes s at (omega arith) g ∙ rw (e, q) (last s (at + 1) (getD s at 0) 128 7 h (inl c) (omega arith))
+
+pub three-byte : (s : List ℕ) (at : ℕ) → at + 2 < length s → 128 ≤ getD s at 0 → getD s at 0 < 256 → 128 ≤ getD s (at + 1) 0 → getD s (at + 1) 0 < 256
+    → getD s (at + 2) 0 < 128 → varintAt s at ≡ Got (getD s at 0 + 128 * getD s (at + 1) 0 + 16384 * getD s (at + 2) 0) (at + 3)
+three-byte s at h g b i d c =
+    let e : getD s at 0 + 128 * getD s (at + 1) 0 ≡ getD s at 0 + getD s (at + 1) 0 * 128 = omega arith in
+    let f : 16384 * getD s (at + 2) 0 ≡ getD s (at + 2) 0 * (128 * 128) = omega arith in
+    let p : at + 2 ≡ at + 1 + 1 = omega arith in
+    let q : at + 3 ≡ at + 2 + 1 = omega arith in
+    let t : stands s (at + 1) (getD s at 0) 128 7 ≡ stands s (at + 2) (getD s at 0 + getD s (at + 1) 0 * 128) (128 * 128) 6 =
+    rw p (step s (at + 1) (getD s at 0) 128 7 (omega arith) i (omega arith)) in
+    two-bytes s at (omega arith) g
+    ∙ t
+    ∙ rw (e, f, q) (last s (at + 2) (getD s at 0 + getD s (at + 1) 0 * 128) (128 * 128) 6 h (inl c) (omega arith))

@@ -1,9 +1,11 @@
 -- A key, then the value of its wire type.
 use mathlib.Core.Path.{_≡_, _∙_, ap, sym}
 use mathlib.Core.Logic.{⊎-elim}
-use Rattle.wire.specs.Reading.{tagged, fieldAt}
+use native.Mathlib.Omega.{arith}
+use Prim.Native.Nat.{ℕ}
+use Rattle.wire.specs.Reading.{wireOf, valueAt, tagged, fieldAt}
 use Rattle.wire.specs.StepLaws.{field-keyed, field-keyless}
-use Rattle.field.proofs.Dispatch.{ByKind, number, payload, four, eight, of-wire}
+use Rattle.field.proofs.Dispatch.{by-wire}
 use borrow.Author.Needs.{needs}
 use Rattle.field.proofs.decode_field.Statement.{statement}
 use Rattle.field.proofs.decode_field.Tie as tie
@@ -23,14 +25,8 @@ wire-number-requires c κs = search needs
 number-at-requires : tie.Need-number-at-requires
 number-at-requires c κs = search needs
 
-payload-at-requires : tie.Need-payload-at-requires
-payload-at-requires c κs = search needs
-
-four-at-requires : tie.Need-four-at-requires
-four-at-requires c κs = search needs
-
-eight-at-requires : tie.Need-eight-at-requires
-eight-at-requires c κs = search needs
+value-behind-requires : tie.Need-value-behind-requires
+value-behind-requires c κs = omega (arith, c .if1 .left)
 
 enum-known-found : tie.Need-enum-known-found
 enum-known-found c = search needs
@@ -38,13 +34,13 @@ enum-known-found c = search needs
 enum-known-found-2 : tie.Need-enum-known-found-2
 enum-known-found-2 c = search needs
 
--- the four ways to the value meet
+-- the two ways to the value meet
 met : (c : tie.Joined1) → let a = c .before .before .before .before .before .before .before .args in
-    ByKind (a .s .now) (a .end) (c .before .before .before .key .given .0 .1 .0) (c .before .wire-number .result) (c .if1 .found)
+    c .if1 .found ≡ valueAt (a .s .now) (a .end) (c .before .before .before .key .given .0 .1 .0) (wireOf (c .before .wire-number .result))
 met c =
-    ⊎-elim (λ w. number (w .1 .taken) (w .3 ∙ w .2 .ensures))
-    (⊎-elim (λ w. payload (w .0 .taken) (w .1 .left) (w .3 ∙ w .2 .ensures))
-    (⊎-elim (λ w. four (w .1 .taken) (w .3 ∙ w .2 .ensures)) (λ w. eight (w .0 .left) (w .1 .left) (w .3 ∙ w .2 .ensures))))
+    let a = c .before .before .before .before .before .before .before .args in
+    let q = c .before .before .before .key .given .0 .1 .0 in
+    ⊎-elim (λ w. w .2 ∙ w .1 .ensures ∙ ap (λ (k : ℕ). valueAt (a .s .now) (a .end) q (wireOf k)) (sym (w .0 .taken))) (λ w. w .2 ∙ w .1 .ensures)
     (c .if1 .came)
 
 -- the field is its value under its tag
@@ -53,7 +49,7 @@ valued : (c : tie.Joined1) → let a = c .before .before .before .before .before
 valued c =
     let k = c .before .before .before in
     field-keyed _ _ _ _ (sym (k .before .before .decode-key .ensures) ∙ k .key .given .1)
-    ∙ ap (tagged (k .key .given .0 .0 .tag)) (sym (of-wire _ _ _ _ (k .key .given .0 .0 .wire) _ (c .before .wire-number .ensures) (met c)))
+    ∙ ap (tagged (k .key .given .0 .0 .tag)) (sym (by-wire _ _ _ _ (k .key .given .0 .0 .wire) _ (c .before .wire-number .ensures) (met c)))
 
 returns : tie.Need-returns
 returns c = sym (field-keyless _ _ _ _ (sym (c .before .before .before .decode-key .ensures) ∙ c .before .r .given .1))
@@ -77,9 +73,7 @@ decode-field-spec =
     enum-known-key
     wire-number-requires
     number-at-requires
-    payload-at-requires
-    four-at-requires
-    eight-at-requires
+    value-behind-requires
     enum-known-found
     enum-known-found-2
     returns
