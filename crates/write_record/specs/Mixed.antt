@@ -27,10 +27,10 @@ leastLen zero = 0
 leastLen (suc zero) = 0
 leastLen (suc (suc k)) = 4 * k + 4
 
-abbrev pub moreLen : ℕ → ℕ → ℕ → ℕ
-moreLen n zero v = 0
-moreLen n (suc zero) v = n - v
-moreLen n (suc (suc k)) v = 0
+abbrev pub spareLen : ℕ → ℕ → ℕ → ℕ
+spareLen n zero v = 0
+spareLen n (suc zero) v = n - v
+spareLen n (suc (suc k)) v = 0
 
 abbrev pub numberIn : ℕ → ℕ → ℕ → ℕ
 numberIn zero v l = v
@@ -60,10 +60,10 @@ least-some zero h = absurd (omega arith)
 least-some (suc zero) h = absurd (omega arith)
 least-some (suc (suc k)) h = omega arith
 
-pub more-none : (n k v : ℕ) → (k ≡ 1 → ⊥) → moreLen n k v ≡ 0
-more-none n zero v h = refl
-more-none n (suc zero) v h = absurd (h refl)
-more-none n (suc (suc k)) v h = refl
+pub spare-none : (n k v : ℕ) → (k ≡ 1 → ⊥) → spareLen n k v ≡ 0
+spare-none n zero v h = refl
+spare-none n (suc zero) v h = absurd (h refl)
+spare-none n (suc (suc k)) v h = refl
 
 pub number-length : (k v l : ℕ) → (k ≡ 0 → ⊥) → numberIn k v l ≡ l
 number-length zero v l h = absurd (h refl)
@@ -100,14 +100,14 @@ short n (suc (suc zero)) v l h g = no-four n 2 v l refl (λ e m. omega arith)
 short n (suc (suc (suc zero))) v l h g = no-eight n 3 v l refl (λ e. omega arith)
 short n (suc (suc (suc (suc k)))) v l h g = absurd (omega arith)
 
-pub long : (n k v l : ℕ) → k < 4 → v ≤ mostOf n k → leastLen k ≤ l → moreLen n k v < l - leastLen k → weighValue n k v l ≡ weight.Bad BadRecord
+pub long : (n k v l : ℕ) → k < 4 → v ≤ mostOf n k → leastLen k ≤ l → spareLen n k v < l - leastLen k → weighValue n k v l ≡ weight.Bad BadRecord
 long n zero v l h f m g = no-number n 0 v l refl (λ e. omega arith)
 long n (suc zero) v l h f m g = no-payload n 1 v l refl (omega arith)
 long n (suc (suc zero)) v l h f m g = no-four n 2 v l refl (λ e q. omega arith)
 long n (suc (suc (suc zero))) v l h f m g = no-eight n 3 v l refl (λ e. omega arith)
 long n (suc (suc (suc (suc k)))) v l h f m g = absurd (omega arith)
 
-pub fits : (n k v l : ℕ) → k < 4 → v ≤ mostOf n k → leastLen k ≤ l → l - leastLen k ≤ moreLen n k v
+pub fits : (n k v l : ℕ) → k < 4 → v ≤ mostOf n k → leastLen k ≤ l → l - leastLen k ≤ spareLen n k v
     → weighValue n k v l ≡ weight.Bytes (ifNumber k (length (encode (numberIn k v l))) + l)
 fits n zero v l h f m g = value-number n 0 v l refl (omega arith) ∙ ap weight.Bytes (omega arith)
 fits n (suc zero) v l h f m g = value-payload n 1 v l refl (omega arith)
@@ -116,7 +116,7 @@ fits n (suc (suc (suc zero))) v l h f m g = value-eight n 3 v l refl (omega arit
 fits n (suc (suc (suc (suc k)))) v l h f m g = absurd (omega arith)
 
 -- how much that is at most
-pub size-below : (n k v l : ℕ) → k < 4 → v ≤ mostOf n k → leastLen k ≤ l → l - leastLen k ≤ moreLen n k v → l ≤ n + 8
+pub size-below : (n k v l : ℕ) → k < 4 → v ≤ mostOf n k → leastLen k ≤ l → l - leastLen k ≤ spareLen n k v → l ≤ n + 8
 size-below n zero v l h f m g = omega arith
 size-below n (suc zero) v l h f m g = omega arith
 size-below n (suc (suc zero)) v l h f m g = omega arith

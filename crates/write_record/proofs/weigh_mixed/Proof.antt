@@ -4,7 +4,7 @@ use mathlib.Core.Path.{_≡_, sym, _∙_}
 use native.Mathlib.Omega.{arith}
 use Rattle.wire.specs.VarintLaws.{length-le}
 use Rattle.write_record.specs.RecordLaws.{no-kind}
-use Rattle.write_record.specs.Mixed.{mostOf, leastLen, moreLen, numberIn, high, short, long, fits, size-below, number-below}
+use Rattle.write_record.specs.Mixed.{mostOf, leastLen, spareLen, numberIn, high, short, long, fits, size-below, number-below}
 use borrow.Author.Needs.{needs}
 use Rattle.write_record.proofs.weigh_mixed.Statement.{statement}
 use Rattle.write_record.proofs.weigh_mixed.Tie as tie
@@ -33,8 +33,8 @@ returns-3 c =
 low : (c : tie.Else2) → let a = c .before .before .before .args in a .value ≤ mostOf (a .size) (a .kind)
 low c = omega (arith, c .before .most-of .ensures)
 
-more-len-requires : tie.Need-more-len-requires
-more-len-requires c κs = low (c .before .before)
+spare-len-requires : tie.Need-spare-len-requires
+spare-len-requires c κs = low (c .before .before)
 
 enough : (c : tie.Else3) → let a = c .before .before .before .before .before .args in leastLen (a .kind) ≤ a .length
 enough c = omega (arith, c .before .least-len .ensures)
@@ -44,7 +44,7 @@ returns-4 c =
     let e = c .before .before in
     let a = e .before .before .before .before .before .args in
     sym (long (a .size) (a .kind) (a .value) (a .length) (omega arith) (low (e .before .before)) (enough e)
-    (omega (arith, e .before .least-len .ensures, c .before .more-len .ensures)))
+    (omega (arith, e .before .least-len .ensures, c .before .spare-len .ensures)))
 
 number-in-requires : tie.Need-number-in-requires
 number-in-requires c κs = search needs
@@ -56,8 +56,8 @@ if-number-requires : tie.Need-if-number-requires
 if-number-requires c κs = search needs
 
 within : (c : tie.Else4) → let a = c .before .before .before .before .before .before .before .args in
-    a .length - leastLen (a .kind) ≤ moreLen (a .size) (a .kind) (a .value)
-within c = omega (arith, c .before .before .before .least-len .ensures, c .before .more-len .ensures)
+    a .length - leastLen (a .kind) ≤ spareLen (a .size) (a .kind) (a .value)
+within c = omega (arith, c .before .before .before .least-len .ensures, c .before .spare-len .ensures)
 
 add-t15 : tie.Need-add-t15
 add-t15 c =
@@ -92,7 +92,7 @@ weigh-mixed-spec =
     returns-2
     least-len-requires
     returns-3
-    more-len-requires
+    spare-len-requires
     returns-4
     number-in-requires
     count-len-requires
