@@ -28,20 +28,26 @@ abbrev pub taking : Orders → Least → Orders
 taking o l =
     record { count = o .count; status = o .status; named = o .named; names = o .names; second = o .second; least = l; wants = wanted.Nothing }
 
-abbrev naming : Orders → Orders
-naming o =
-    record { count = o .count; status = o .status; named = true; names = o .names; second = o .second; least = o .least; wants = o .wants }
+-- a file is named; frames are counted; the status is told; all that follow are names
+abbrev pub naming : Orders → Orders
+naming o = record { count = o .count; status = o .status; named = true; names = o .names; second = o .second; least = o .least; wants = o .wants }
+
+abbrev pub counting : Orders → Orders
+counting o = record { count = true; status = o .status; named = o .named; names = o .names; second = o .second; least = o .least; wants = o .wants }
+
+abbrev pub telling : Orders → Orders
+telling o = record { count = o .count; status = true; named = o .named; names = o .names; second = o .second; least = o .least; wants = o .wants }
+
+abbrev pub listing : Orders → Orders
+listing o = record { count = o .count; status = o .status; named = o .named; names = true; second = o .second; least = o .least; wants = o .wants }
 
 -- what the arguments ask for with one more
 unfoldable pub orderedBy : Orders → Argument → Orders
 orderedBy o File = naming o
 orderedBy o Input = naming o
-orderedBy o Count =
-    record { count = true; status = o .status; named = o .named; names = o .names; second = o .second; least = o .least; wants = o .wants }
-orderedBy o Status =
-    record { count = o .count; status = true; named = o .named; names = o .names; second = o .second; least = o .least; wants = o .wants }
-orderedBy o Names =
-    record { count = o .count; status = o .status; named = o .named; names = true; second = o .second; least = o .least; wants = o .wants }
+orderedBy o Count = counting o
+orderedBy o Status = telling o
+orderedBy o Names = listing o
 orderedBy o argument.Edition = wanting o wanted.Edition
 orderedBy o argument.Least = wanting o wanted.Grade
 orderedBy o (Chosen b) = choosing o b

@@ -1,7 +1,7 @@
 // What a run of a program is asked for, word by word, and frames counted by their verdict.
 ghost use mathlib.Core.Path.{_≡_};
 ghost use Rattle.stream_orders.specs.Arguments.{alike, dashed, optionOf, plainOf, editionOf, gradeOf, argumentOf};
-ghost use Rattle.stream_orders.specs.Orders.{noOrders, wanting, choosing, taking, orderedBy, leastAlone, faultOf};
+ghost use Rattle.stream_orders.specs.Orders.{noOrders, naming, counting, telling, listing, wanting, choosing, taking, orderedBy, leastAlone, faultOf};
 ghost use Rattle.stream_orders.specs.Counting.{counted};
 
 // The least grade that is asked for.
@@ -155,6 +155,74 @@ pub fn argument_of(word: &[u8], names: bool, wants: Wants) -> Argument
 
 // ---- orders
 
+// The same with a file named.
+fn name(o: Orders) -> Orders
+    ensures { λ r. ⌜ r ≡ naming o ⌝ }
+{
+    let least = o.least;
+    let wants = o.wants;
+    Orders {
+        count: o.count,
+        status: o.status,
+        named: true,
+        names: o.names,
+        second: o.second,
+        least: least,
+        wants: wants,
+    }
+}
+
+// The same counted.
+fn count(o: Orders) -> Orders
+    ensures { λ r. ⌜ r ≡ counting o ⌝ }
+{
+    let least = o.least;
+    let wants = o.wants;
+    Orders {
+        count: true,
+        status: o.status,
+        named: o.named,
+        names: o.names,
+        second: o.second,
+        least: least,
+        wants: wants,
+    }
+}
+
+// The same with the status told.
+fn tell(o: Orders) -> Orders
+    ensures { λ r. ⌜ r ≡ telling o ⌝ }
+{
+    let least = o.least;
+    let wants = o.wants;
+    Orders {
+        count: o.count,
+        status: true,
+        named: o.named,
+        names: o.names,
+        second: o.second,
+        least: least,
+        wants: wants,
+    }
+}
+
+// The same, but that all that follow are names.
+fn list(o: Orders) -> Orders
+    ensures { λ r. ⌜ r ≡ listing o ⌝ }
+{
+    let least = o.least;
+    let wants = o.wants;
+    Orders {
+        count: o.count,
+        status: o.status,
+        named: o.named,
+        names: true,
+        second: o.second,
+        least: least,
+        wants: wants,
+    }
+}
+
 // The same, but that the next argument has to be something.
 fn want(o: Orders, wants: Wants) -> Orders
     ensures { λ r. ⌜ r ≡ wanting o wants ⌝ }
@@ -202,42 +270,22 @@ fn take(o: Orders, least: Least) -> Orders
     }
 }
 
-// What the arguments ask for with one more.
+// What the arguments ask for with one more. Each has a function of its own, since ways that meet behind a match cost a check many times as much.
 pub fn ordered(o: Orders, a: Argument) -> Orders
     ensures { λ r. ⌜ r ≡ orderedBy o a ⌝ }
 {
-    let mut r = o;
     match a {
-        Argument::File => {
-            r.named = true;
-        }
-        Argument::Input => {
-            r.named = true;
-        }
-        Argument::Count => {
-            r.count = true;
-        }
-        Argument::Status => {
-            r.status = true;
-        }
-        Argument::Names => {
-            r.names = true;
-        }
-        Argument::Edition => {
-            return want(o, Wants::Edition);
-        }
-        Argument::Least => {
-            return want(o, Wants::Grade);
-        }
-        Argument::Chosen(second) => {
-            return choose(o, second);
-        }
-        Argument::Taken(least) => {
-            return take(o, least);
-        }
-        Argument::Unknown => {}
+        Argument::File => name(o),
+        Argument::Input => name(o),
+        Argument::Count => count(o),
+        Argument::Status => tell(o),
+        Argument::Names => list(o),
+        Argument::Edition => want(o, Wants::Edition),
+        Argument::Least => want(o, Wants::Grade),
+        Argument::Chosen(second) => choose(o, second),
+        Argument::Taken(least) => take(o, least),
+        Argument::Unknown => o,
     }
-    r
 }
 
 // Nothing is asked for yet.
