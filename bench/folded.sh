@@ -4,9 +4,10 @@
 # function of crates/ is an error too, so that a new name has to be written here.
 set -eu
 FOLDED='
-field::decode_field field::step_from field::next_field
+field::decode_field field::value_behind field::step_from field::next_field
 message::decide
-write_record::weigh_record
+write_record::weigh_record write_record::weigh_mixed
+write_message::put_record write_message::put_mixed_value write_message::prepend_record write_message::prepend_mixed_value
 sounding::next_level sounding::level_of
 '
 crates=$(dirname "$0")/../crates
