@@ -270,7 +270,7 @@ fn take(o: Orders, least: Least) -> Orders
     }
 }
 
-// What the arguments ask for with one more. Each has a function of its own, since ways that meet behind a match cost a check many times as much.
+// What the arguments ask for with one more.
 pub fn ordered(o: Orders, a: Argument) -> Orders
     ensures { λ r. ⌜ r ≡ orderedBy o a ⌝ }
 {
