@@ -24,12 +24,12 @@ def surroundings(**more: str) -> dict[str, str]:
 
 def run(*arguments: str, given: bytes = b"", **options: Any) -> Ran:
     """A command's status, output and error; from the repository's folder."""
-    done = subprocess.run([*COMMAND, *arguments], input=given, capture_output=True, cwd=ROOT, env=surroundings(), timeout=60, **options)
+    done = subprocess.run([*COMMAND, *arguments], input=given, capture_output=True, cwd=ROOT, env=surroundings(), timeout=600, **options)
     return Ran(done.returncode, done.stdout.decode(), done.stderr.decode())
 
 
 def shell(line: str, **options: Any) -> Ran:
     """A line of a shell in which `capgauze` is the command."""
     text = f'capgauze() {{ {" ".join(COMMAND)} "$@"; }}; {line}'
-    done = subprocess.run(["bash", "-c", text], capture_output=True, cwd=ROOT, env=surroundings(), timeout=60, **options)
+    done = subprocess.run(["bash", "-c", text], capture_output=True, cwd=ROOT, env=surroundings(), timeout=600, **options)
     return Ran(done.returncode, done.stdout.decode(), done.stderr.decode())
