@@ -8,4 +8,4 @@ sys.path.insert(0, str(pathlib.Path(__file__).resolve().parent))
 import build_library  # noqa: E402
 
 setup(version=build_library.version(), packages=["capgauze", "capgauze.cli"], package_data={"capgauze": ["py.typed"]}, zip_safe=False,
-      cffi_modules=["build_library.py:make"])
+      data_files=[("share/man/man1", ["capgauze.1"])], cffi_modules=["build_library.py:make"])

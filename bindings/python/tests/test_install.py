@@ -76,6 +76,7 @@ class TestInstalled:
         assert (done.returncode, done.stdout.splitlines()[-1]) == (0, "4,,,,,,,HEX")
         version = ran([tmp_path / "venv/bin/capgauze", "--version"], tmp_path).stdout
         assert version == f"capgauze {build_library.version()}\n"
+        assert (tmp_path / "venv/share/man/man1/capgauze.1").read_text() == (copied / "capgauze.1").read_text()
         installed = ran([tmp_path / "venv/bin/python", "-c", "import capgauze, os; print(os.listdir(os.path.dirname(capgauze.__file__)))"], tmp_path)
         assert "py.typed" in installed.stdout and str(tmp_path / "venv") in ran(
             [tmp_path / "venv/bin/python", "-c", "import capgauze; print(capgauze.__file__)"], tmp_path).stdout

@@ -9,7 +9,7 @@ use borrow.Author.Tests.{leb-true, le-leb}
 use lib.Dec.{leb}
 use lib.ListN.{length, take, drop}
 use denote.Ref.{now}
-use Rattle.wire.specs.Choose.{choose}
+use Rattle.wire.specs.Choose.{choose, both}
 use Rattle.wire.specs.Limits.{messageLimit, recordWords}
 use Rattle.wire.specs.Marks.{Mark, marks, fieldsOf, marks-fields}
 use Rattle.wire.specs.Numbers.{numberOf}
@@ -110,17 +110,6 @@ inside (Skips bs e at w to) = within bs at e
 abbrev every : List Case → Bool
 every [] = true
 every (c ∷ cs) = choose (inside c) (every cs) false
-
-both : (a b : Bool) → choose a b false ≡ true → (a ≡ true) × (b ≡ true)
-both true b e = (refl, e)
-both false b e = absurd (no e)
-  where
-    code : Bool → ℕ
-    code true = 1
-    code false = 0
-
-    no : false ≡ true → ⊥
-    no e = let z : _≡_ {A = ℕ} 0 1 = ap code e in absurd (omega arith)
 
 -- so the gate is open
 open-gate : (bs : List ℕ) (a e : ℕ) → within bs a e ≡ true → gated (length bs) a e ≡ Open

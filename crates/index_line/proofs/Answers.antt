@@ -8,6 +8,7 @@ use native.Mathlib.Nat.{mul-comm, div-lt-iff-lt-mul, le-div-iff-mul-le}
 use borrow.Author.Tests.{leb-true}
 use lib.ListN.{length, drop, getD}
 use lib.Dec.{leb}
+use Rattle.wire.specs.Choose.{both}
 use Rattle.wire.specs.declared.Refusal.the-variants.{NoRoom, BadIndex}
 use Rattle.place.specs.Place.{Placed, putAt, put-front}
 use Rattle.place.specs.Spans.{Spans, spans-put, spans-length, spans-behind}
@@ -16,7 +17,6 @@ use Rattle.text_digits.specs.DigitLaws.{length-digits}
 use Rattle.entry_answer.specs.declared.Put.the-variants as put
 use Rattle.entry_answer.specs.declared.Indexed.the-variants as indexedAs
 use Rattle.index.specs.Index.{indexWords, room, indexed, entriesFrom, soundIndex, length-from, outcome}
-use Rattle.index_line.specs.Chars.{both}
 use Rattle.index_line.specs.Line.{headDigits, width, spelledAll, lineOf, soundEntries, writeLine, line-unsound, line-no-room, line-done}
 use Rattle.index_line.specs.Line.{tagsIn, entriesOf, spelledWell, accepted, accepted-not, accepted-as}
 use Rattle.index_line.specs.Line.{readLine, read-bad, read-no-room, read-done, oldLimit, readEither, either-new, either-old, either-late, either-none}

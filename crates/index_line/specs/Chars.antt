@@ -8,18 +8,12 @@ use native.Mathlib.Nat.{pow-suc, mul-assoc, mul-comm}
 use borrow.Author.Tests.{ltb-true, ltb-false}
 use lib.Dec.{ltb}
 use lib.ListN.{length, take, drop}
-use Rattle.wire.specs.Choose.{choose}
+use Rattle.wire.specs.Choose.{choose, both}
 use Rattle.text_digits.specs.Digits.{between, digitOf, glyph, digits, worth, readsOn}
 use Rattle.text_digits.specs.DigitLaws.{Run, Inside, Outside, runs, in-run, below-run, above-run, digital, glyph-figure, glyph-letter}
 use Rattle.text_digits.specs.DigitLaws as digit
 use Rattle.text_digits.specs.declared.Digit.{Digit}
 use Rattle.text_digits.specs.declared.Digit.the-variants.{Value, Other}
-
--- ---- two tests, the second where the first holds
-
-pub both : (a b : Bool) → choose a b false ≡ true → (a ≡ true) × (b ≡ true)
-both true b h = (refl, h)
-both false b h = let z : _≡_ {A = ℕ} 0 1 = cc in absurd (omega arith)
 
 -- ---- one character
 

@@ -8,7 +8,7 @@ use borrow.Author.Tests.{leb-true, leb-false, le-leb, lt-ltb, ltb-true}
 use lib.Dec.{leb, ltb}
 use lib.ListN.{length, take, drop, getD, length-append}
 use lib.Seq.{take-append-seam, getD-drop, drop-drop}
-use Rattle.wire.specs.Choose.{choose}
+use Rattle.wire.specs.Choose.{choose, both}
 use Rattle.wire.specs.declared.Refusal.{Refusal}
 use Rattle.wire.specs.declared.Refusal.the-variants.{NoRoom, BadIndex}
 use Rattle.text_digits.specs.Digits.{digits, glyph}
@@ -17,7 +17,6 @@ use Rattle.entry_answer.specs.declared.Put.the-variants as put
 use Rattle.entry_answer.specs.declared.Indexed.the-variants as indexedAs
 use Rattle.index.specs.Index.{Entry, room, indexed, entriesFrom, length-from, entries-indexed, Outcome, outcome}
 use Rattle.index.specs.Index.{soundEntry, soundFrom, soundIndex, sound-indexed}
-use Rattle.index_line.specs.Chars.{both}
 use Rattle.index_line.specs.Line.{headDigits, width, lineOf, soundEntries, writeLine, line-unsound, line-no-room, line-done}
 use Rattle.index_line.specs.Line.{entriesOf, spelledWell, accepted, accepted-as}
 use Rattle.index_line.specs.Line.{readLine, read-bad, read-no-room, read-done, oldLimit, readEither, either-new, either-old, either-late}

@@ -5,7 +5,7 @@ use mathlib.Core.Bool.{Bool, true, false}
 use mathlib.Core.List.{List, _++_}
 use native.Mathlib.Omega.{arith}
 use native.Mathlib.Numerals.{add-one}
-use lib.ListN.{length, length-append, getD}
+use lib.ListN.{length, length-append}
 use lib.Seq.{sets}
 use Rattle.wire.specs.Fixed.{fixed}
 use Rattle.wire.specs.Limits.{messageLimit, recordWords}
@@ -29,6 +29,7 @@ use Rattle.run_read.specs.Widths.{width, wideType}
 use Rattle.run_write.specs.RunPlan.{runJudge, runWeigh, runTested, runChecked, runBytes}
 use Rattle.run_write.specs.RunLaws.{fine-run, weigh-run, weigh-not, weighed-bad, weighed-bytes, first-stays, checked-long, checked-count, checked-tests}
 use Rattle.run_write.specs.RunLaws.{Ready, ready-at, bytes-last, bytes-cut}
+use Rattle.run_write.specs.Exact.{wordsAt, words-there, Plain}
 
 -- ---- one record
 
@@ -141,9 +142,6 @@ forward-done {b} {s} {t} {c} {buf} {at} {i} w h = let z : i ≡ c = omega (arith
 
 -- ---- fixed values: i records are fine, and the next one's words stand from word at on
 
-abbrev pub wordsAt : List ℕ → ℕ → Record
-wordsAt t at = record { tag = getD t at 0; kind = getD t (at + 1) 0; value = getD t (at + 2) 0; length = getD t (at + 3) 0; key = getD t (at + 4) 0 }
-
 pub record Testing (s t : List ℕ) (c : ℕ) (b : Bool) (at : ℕ) : Type 0 where
   pub i : ℕ
   pub place : at ≡ recordWords * i
@@ -178,34 +176,31 @@ module _ {s t : List ℕ} {c : ℕ} {b : Bool} {at : ℕ} (f : Testing s t c b a
     pub test-inside : at + recordWords ≤ length t
     test-inside = omega (arith, f .place, before, f .weighing .count)
 
-    there : wordsAt t at ≡ recordAt t (f .i)
-    unfolding recordAt
-    there = rw (f .place)
+    -- the record r there
+    there : {r : Record} → r ≡ wordsAt t at → r ≡ recordIn t (f .i)
+    there q = q ∙ words-there t at (f .i) (f .place) ∙ sym (record-there t (f .i) (omega (arith, before, f .weighing .count)))
 
     -- one that is none of the run
-    pub test-bad : (good (length s) (wordsAt t at) ≡ true → getD t (at + 1) 0 ≡ kindOf (wideType b) → getD t at 0 ≡ 0 → ⊥)
+    pub test-bad : {r : Record} → r ≡ wordsAt t at → (good (length s) r ≡ true → r .kind ≡ kindOf (wideType b) → r .tag ≡ 0 → ⊥)
         → weighed.First BadRecord (at / recordWords)
         ≡ spent (messageLimit + 1) (length (runBytes s t c)) (runChecked messageLimit s t c (kindOf (wideType b)))
-    test-bad n =
+    test-bad {r} q n =
         let k = kindOf (wideType b) in
-        let r = wordsAt t at in
         let e : at / recordWords ≡ f .i = omega (arith, f .place) in
-        let q : r ≡ recordIn t (f .i) = there ∙ sym (record-there t (f .i) (omega (arith, before, f .weighing .count))) in
         ap (weighed.First BadRecord) e
-        ∙ turn-bad (f .weighing) {r = r} {x = runWeigh (length s) k r} before q refl BadRecord (weigh-not (length s) k r n)
+        ∙ turn-bad (f .weighing) {r = r} {x = runWeigh (length s) k r} before (there q) refl BadRecord (weigh-not (length s) k r n)
 
     -- one more
-    pub test-more : good (length s) (wordsAt t at) ≡ true → getD t (at + 1) 0 ≡ kindOf (wideType b) → getD t at 0 ≡ 0 → Testing s t c b (at + recordWords)
-    test-more g d z =
+    pub test-more : {r : Record} → r ≡ wordsAt t at → good (length s) r ≡ true → r .kind ≡ kindOf (wideType b) → r .tag ≡ 0
+        → Testing s t c b (at + recordWords)
+    test-more {r} q g d z =
         let k = kindOf (wideType b) in
-        let r = wordsAt t at in
-        let q : r ≡ recordIn t (f .i) = there ∙ sym (record-there t (f .i) (omega (arith, before, f .weighing .count))) in
         let m = size-wide b (r .kind) (r .value) (r .length) d in
         let w = weigh-run (length s) k r g d z ∙ ap weight.Bytes m in
         record {
           i = f .i + 1;
           place = omega (arith, f .place);
-          weighing = turn-more (f .weighing) {r = r} {x = runWeigh (length s) k r} before q refl (width b) w (less b (f .i));
+          weighing = turn-more (f .weighing) {r = r} {x = runWeigh (length s) k r} before (there q) refl (width b) w (less b (f .i));
         }
 
   pub test-done : recordWords * c ≤ at → {left : ℕ} → left ≡ messageLimit + 1 - width b * c
@@ -213,6 +208,21 @@ module _ {s t : List ℕ} {c : ℕ} {b : Bool} {at : ℕ} (f : Testing s t c b a
   test-done h e =
       let n : f .i ≡ c = omega (arith, f .place, f .weighing .index) in
       ap weighed.Left (e ∙ ap (λ (j : ℕ). messageLimit + 1 - width b * j) (sym n)) ∙ weigh-done (f .weighing) (omega (arith, n))
+
+-- where the first i are fine, the next one is looked at
+testing-from : (s t : List ℕ) (c : ℕ) (b : Bool) → length s ≤ messageLimit → c ≤ room t → (i : ℕ) → i ≤ c
+    → ((j : ℕ) → j < i → runJudge (length s) (kindOf (wideType b)) (recordAt t j) ≡ Fine) → Testing s t c b (recordWords * i)
+testing-from s t c b g h zero l e = test-start b s t c g h
+testing-from s t c b g h (suc i) l e =
+    let f = testing-from s t c b g h i (omega (arith, l)) (λ j m. e j (omega (arith, m))) in
+    let q = fine-run (length s) (kindOf (wideType b)) (recordAt t i) (e i (omega arith)) in
+    let z : recordWords * i + recordWords ≡ recordWords * suc i = omega arith in
+    rw z at (test-more f (omega (arith, l)) {r = recordAt t i} (sym (words-there t (recordWords * i) i refl)) (q .0) (q .1) (q .2))
+
+pub plain-testing : {s t : List ℕ} {c : ℕ} {b : Bool} {at : ℕ} → length s ≤ messageLimit → c ≤ room t → Plain t c b at → Testing s t c b at
+plain-testing {s} {t} {c} {b} {at} g h p =
+    let z : recordWords * (2 * p .m) ≡ at = omega (arith, p .place) in
+    rw z at (testing-from s t c b g h (2 * p .m) (p .index) (λ j. p .fine (length s) j))
 
 -- the budget, by the count
 module _ (c : ℕ) {n : ℕ} where

@@ -1,4 +1,5 @@
 pub mod RunPlan
 pub mod RunLaws
+pub mod Exact
 pub mod Back
 pub mod Cases

@@ -6,7 +6,7 @@ ghost use lib.ListN.{length};
 ghost use lib.Seq.{sets};
 ghost use Rattle.place.specs.Spans.{Spans};
 ghost use Rattle.wire.specs.Fixed.{fixed};
-ghost use Rattle.wire.specs.Limits.{messageLimit};
+ghost use Rattle.wire.specs.Limits.{messageLimit, recordWords};
 ghost use Rattle.wire.specs.Numbers.{kindOf};
 ghost use Rattle.wire.specs.Table.{room};
 ghost use Rattle.wire.specs.Varint.{encode};
@@ -16,7 +16,9 @@ ghost use Rattle.write_message.specs.Writing.{fitted, spent, Writing};
 ghost use Rattle.run_read.specs.Widths.{width, wideType};
 ghost use Rattle.run_write.specs.RunPlan.{runWeigh, runChecked, runBytes, runPlan, writeRun};
 ghost use Rattle.run_write.specs.RunLaws.{Ready};
+ghost use Rattle.run_write.specs.Exact.{wordsAt, highOf, leftOver, Plain};
 use wire::MESSAGE_LIMIT;
+use wire::NO_KEY;
 use wire::RECORD_WORDS;
 use wire::Record;
 use wire::Refusal;
@@ -83,6 +85,55 @@ fn kind_of(wide: bool) -> u64
     if wide { 3 } else { 2 }
 }
 
+// What a value has above its width.
+fn high_of(wide: bool, value: u64) -> u64
+    ensures { λ n. ⌜ n ≡ highOf wide value ⌝ }
+{
+    if wide { 0 } else { value / 0x1_0000_0000 }
+}
+
+// The record whose words stand from a place on.
+fn words_at(table: &[u64], at: usize) -> Record
+    requires { ⌜ at + recordWords ≤ length (now table) ⌝ }
+    ensures { λ r. ⌜ r ≡ wordsAt (now (table .entry)) at ⌝ }
+{
+    Record {
+        tag: table[at],
+        kind: table[at + 1],
+        value: table[at + 2],
+        length: table[at + 3],
+        key: table[at + 4],
+    }
+}
+
+// The bits in which a record's words are not those of a fixed value without a key.
+fn left_over(wide: bool, r: Record) -> u64
+    ensures { λ n. ⌜ n ≡ leftOver wide r ⌝ }
+{
+    let kind = r.kind ^ kind_of(wide);
+    let length = r.length ^ width_of(wide) as u64;
+    r.tag | kind | length | high_of(wide, r.value) | (r.key ^ NO_KEY)
+}
+
+// As many words as hold fixed values without keys, two records at a turn. Where it stops they are looked at one by one.
+// INLINE: one test for two records.
+fn plain_words(table: &[u64], count: usize, wide: bool) -> usize
+    requires { ⌜ count ≤ room (now table) ⌝ }
+    ensures { λ n. ⌜ Plain (now (table .entry)) count wide n ⌝ }
+{
+    let end = 2 * RECORD_WORDS * (count / 2);
+    let mut at: usize = 0;
+    while at < end {
+        let first = left_over(wide, words_at(table, at));
+        let second = left_over(wide, words_at(table, at + RECORD_WORDS));
+        if 0 < first | second {
+            return at;
+        }
+        at += 2 * RECORD_WORDS;
+    }
+    at
+}
+
 // The tests of fixed values; what they leave of the budget is told by the count.
 // INLINE: called with both widths, and folded in for each. It goes by words, so that a turn counts one number; and it asks is_good, since with another caller
 // weigh_one would be a call.
@@ -98,15 +149,9 @@ fn weigh_fixed(source: &[u8], table: &[u64], count: usize, wide: bool) -> Weighe
     let kind = kind_of(wide);
     let n = width_of(wide);
     let end = RECORD_WORDS * count;
-    let mut at: usize = 0;
+    let mut at = plain_words(table, count, wide);
     while at < end {
-        let r = Record {
-            tag: table[at],
-            kind: table[at + 1],
-            value: table[at + 2],
-            length: table[at + 3],
-            key: table[at + 4],
-        };
+        let r = words_at(table, at);
         if 0 < r.tag {
             return Weighed::First(Refusal::BadRecord, at / RECORD_WORDS);
         }

@@ -9,7 +9,7 @@ use borrow.Author.Tests.{lt-ltb, le-ltb, le-leb, lt-leb, ltb-true, leb-true, leb
 use lib.Dec.{ltb, leb, eqb}
 use lib.ListN.{length, take, drop, length-append, length-drop}
 use lib.Seq.{length-take-le}
-use Rattle.wire.specs.Choose.{choose}
+use Rattle.wire.specs.Choose.{choose, both}
 use Rattle.wire.specs.Numbers.{numberOf}
 use Rattle.wire.specs.Varint.{encode}
 use Rattle.wire.specs.VarintLaws.{length-le}
@@ -33,10 +33,6 @@ pub record Sound (n : ℕ) (r : Record) : Type 0 where
   pub kind : r .kind < 4
   pub payload : r .kind ≡ 1 → r .value + r .length ≤ n
   pub four : r .kind ≡ 2 → r .value < 2 ^ 32
-
-both : (a b : Bool) → choose a b false ≡ true → (a ≡ true) × (b ≡ true)
-both true b e = (refl, e)
-both false b e = (cc, cc)
 
 value-sound : (n k v l : ℕ) → goodValue n k v l ≡ true → (k < 4) × (k ≡ 1 → v + l ≤ n) × (k ≡ 2 → v < 2 ^ 32)
 unfolding goodValue
