@@ -20,6 +20,8 @@ def copied(tmp_path):
     shutil.copytree(ROOT / "bindings/python", tmp_path / "bindings/python", ignore=ignored)
     shutil.copytree(ROOT / "bindings/c", tmp_path / "bindings/c")
     (tmp_path / "bindings/rust").mkdir()
+    (tmp_path / "tools").mkdir()
+    shutil.copy(ROOT / "tools/x86-64.sh", tmp_path / "tools")  # asked by build.sh on other processors
     shutil.copy(ROOT / "bindings/rust/Cargo.toml", tmp_path / "bindings/rust")
     return tmp_path / "bindings/python"
 

@@ -55,7 +55,8 @@ class TestGaps:
             hatched = [patch for patch in main.patches if patch.get_hatch() == series.hatch]
             assert len(told) == len(hatched) == len(plot.gaps(series.values))
             for gap, patch in zip(plot.gaps(series.values), hatched):
-                low, high = sorted({y for _, y in patch.get_xy()})[0], max(y for _, y in patch.get_xy())
+                corners = patch.get_patch_transform().transform(patch.get_path().vertices)
+                low, high = min(y for _, y in corners), max(y for _, y in corners)
                 assert all(low <= sounding.levels[number].pressure_pa / 100 <= high for number in gap)
         figure.canvas.draw()
 

@@ -58,13 +58,39 @@ class Progress:
             sys.stderr.flush()
 
 
+class Output:
+    """Standard output in blocks; Failure if it is closed, or if a write fails. Python's own writer would tell a failed write again when it is taken away."""
+
+    def __init__(self, size: int = 1 << 16) -> None:
+        self.size, self.held, self.pieces = size, 0, list[bytes]()
+        try:
+            os.fstat(1)
+        except OSError as error:
+            failed("standard output", error)
+
+    def write(self, data: bytes) -> None:
+        self.pieces.append(data)
+        self.held += len(data)
+        if self.held >= self.size:
+            self.flush()
+
+    def flush(self) -> None:
+        left = memoryview(b"".join(self.pieces))
+        self.held, self.pieces = 0, []
+        try:
+            while left:
+                left = left[os.write(1, left):]
+        except OSError as error:
+            failed("standard output", error)
+
+
 class Session:
     """The inputs are opened before anything is printed. What was printed is on its way before more input is waited for."""
 
     def __init__(self, arguments: Namespace) -> None:
         self.arguments = arguments
         self.counts: Counter[str] = Counter()
-        self.out = _standard(1, "wb")
+        self.out = Output()
         self.progress: Optional[Progress] = None
 
     def __enter__(self) -> Session:
@@ -81,7 +107,7 @@ class Session:
         opened: list[tuple[str, BinaryIO]] = []
         for name in names or ["-"]:
             if name == "-":
-                opened.append(("standard input", _standard(0, "rb")))
+                opened.append(("standard input", _standard_input()))
                 continue
             try:
                 opened.append((name, open(name, "rb", buffering=0)))
@@ -140,16 +166,10 @@ class Session:
 
     def print(self, text: str) -> None:
         """Writes lines to standard output, each with its end."""
-        try:
-            self.out.write(text.encode())
-        except OSError as error:
-            failed("standard output", error)
+        self.out.write(text.encode())
 
     def flush(self) -> None:
-        try:
-            self.out.flush()
-        except OSError as error:
-            failed("standard output", error)
+        self.out.flush()
 
     def count(self, verdict: Optional[Refused]) -> None:
         """Counts a frame in the words of the dump."""
@@ -182,10 +202,9 @@ def verdict_line(number: int, refused: Refused) -> str:
     return f"{number} {verdict_of(refused)}\n"
 
 
-def _standard(descriptor: int, mode: str) -> Any:
-    """A standard stream, without what Python would do to it; Failure if it is closed."""
-    name = ("standard input", "standard output")[descriptor]
+def _standard_input() -> BinaryIO:
+    """Standard input, without what Python would do to it; Failure if it is closed."""
     try:
-        return open(descriptor, mode, buffering=1 << 16 if mode == "wb" else 0, closefd=False)
+        return open(0, "rb", buffering=0, closefd=False)
     except OSError as error:
-        failed(name, error)
+        failed("standard input", error)
