@@ -9,13 +9,13 @@ use borrow.Author.Tests.{eqb-true, eq-eqb, leb-true, ltb-true}
 use lib.Dec.{eqb, leb, ltb}
 use lib.ListN.{length, take, drop, getD, length-append, take-append-drop, drop-of-length-le}
 use lib.Seq.{take-at, drop-at, drop-drop, drop-cons}
-use Rattle.wire.specs.Choose.{choose}
+use Rattle.wire.specs.Choose.{choose, both}
 use Rattle.place.specs.Place.{length-part}
 use Rattle.text_digits.specs.Digits.{digits, readsOn}
 use Rattle.text_digits.specs.DigitLaws.{length-digits, glyph-figure}
 use Rattle.text_hex.specs.Trips.{read-digits}
 use Rattle.index.specs.Index.{Entry, soundEntry, soundFrom}
-use Rattle.index_line.specs.Chars.{both, capitals, capitals-both, capitals-take, capitals-drop, capitals-digits, again, below}
+use Rattle.index_line.specs.Chars.{capitals, capitals-both, capitals-take, capitals-drop, capitals-digits, again, below}
 use Rattle.index_line.specs.Line.{headDigits, tagDigits, width, spelled, spelledAll, lineOf, soundEntries}
 use Rattle.index_line.specs.Line.{numberAt, spelledAt, entriesIn, tagsIn, entriesOf, same, spelledWell}
 
