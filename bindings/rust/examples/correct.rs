@@ -32,7 +32,10 @@ fn main() -> Result<(), Box<dyn Error>> {
     let mut copy = WorkingCopy::of(sounding, sounding.len() + level.len(), 0)?;
     copy.replace(3, &level)?;
     let result = copy.message()?;
-    println!("{}", result.iter().map(|byte| format!("{byte:02X}")).collect::<String>());
+    for byte in &result {
+        print!("{byte:02X}");
+    }
+    println!();
     assert_eq!(&result, wanted);
     Ok(())
 }

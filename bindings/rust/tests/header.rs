@@ -37,11 +37,8 @@ fn one_line(text: &str) -> String {
 /// The header's statements: no comments, no lines of the preprocessor, nothing for C++ alone, no body of a function.
 fn statements() -> Vec<String> {
     let plain = without(&without(HEADER, "/*", "*/"), "#ifdef __cplusplus", "#endif");
-    let plain: String = plain
-        .lines()
-        .filter(|line| !line.starts_with('#'))
-        .map(|line| format!("{line}\n"))
-        .collect();
+    let plain: String =
+        plain.lines().filter(|line| !line.starts_with('#')).flat_map(|line| [line, "\n"]).collect();
     let plain = without(&plain, "static inline", "\n}\n");
     let mut statements = vec![String::new()];
     let mut depth = 0;
