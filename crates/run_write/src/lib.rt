@@ -116,7 +116,7 @@ fn left_over(wide: bool, r: Record) -> u64
 }
 
 // As many words as hold fixed values without keys, two records at a turn. Where it stops they are looked at one by one.
-// INLINE: one test for two records.
+// INLINE: one test for two records; with a test for each word writing R4 and R8 takes 1.5 times the instructions.
 fn plain_words(table: &[u64], count: usize, wide: bool) -> usize
     requires { ⌜ count ≤ room (now table) ⌝ }
     ensures { λ n. ⌜ Plain (now (table .entry)) count wide n ⌝ }
