@@ -2,24 +2,30 @@
 # Everything that a user has, from nothing: proves and builds, then runs the tests of C, Rust and Python, of the programs, of ./install and of the READMEs. By
 # hand: it is no part of the gate. A line for each, and 'N passed, M failed' at the end, with status 1 if one failed.
 #
-#   tools/try-all.sh             in this folder
-#   tools/try-all.sh --clone     in a fresh clone of its last commit, which is taken away again
+#   tools/try-all.sh [PART..]            in this folder; the parts are c, rust, python, programs, install and readme, and all of them without a name
+#   tools/try-all.sh --clone [PART..]    in a fresh clone of its last commit, which is taken away again
 #
-# Needs the Rattle toolchain and the packages that README.md names. CAPGAUZE_ARCHIVE and CAPGAUZE_PROGRAMS name what is proved already. What each said is in
-# target/try-all.
+# Needs the Rattle toolchain and the packages that README.md names; tools/try-debian.sh tries whether they are enough. CAPGAUZE_ARCHIVE and CAPGAUZE_PROGRAMS
+# name what is proved already. What each said is in target/try-all.
 set -u
 root=$(cd "$(dirname "${BASH_SOURCE[0]}")/.." && pwd)
-case ${1:-} in
-'') ;;
---clone)
+clone=
+[ "${1:-}" != --clone ] || { clone=yes; shift; }
+for part; do
+    case $part in
+    c | rust | python | programs | install | readme) ;;
+    -*) echo "try-all.sh: there is no option $part" >&2; exit 2 ;;
+    *) echo "try-all.sh: there is no part $part" >&2; exit 2 ;;
+    esac
+done
+if [ -n "$clone" ]; then
     room=$(mktemp -d)
     chmod 755 "$room"
     trap 'rm -rf "$room"' EXIT
-    git clone --quiet "$root" "$room/clone" && "$room/clone/tools/try-all.sh"
+    git clone --quiet "$root" "$room/clone" && "$room/clone/tools/try-all.sh" "$@"
     exit
-    ;;
-*) echo "try-all.sh: there is no option $1" >&2; exit 2 ;;
-esac
+fi
+parts=" ${*:-c rust python programs install readme} "
 . "$root/tools/prove.sh"
 cd "$root" || exit 1
 said=$root/target/try-all
@@ -37,8 +43,9 @@ tell() { # STATUS NAME SECONDS
         tail -n 12 "$said/$2" | sed 's/^/    /'
     fi
 }
-run() { # NAME COMMAND..
+run() { # NAME COMMAND.., if the part was named
     local name=$1 start=$SECONDS
+    case $parts in *" $name "*) ;; *) return ;; esac
     shift
     "$@" >"$said/$name" 2>&1 </dev/null
     tell $? "$name" $((SECONDS - start))
