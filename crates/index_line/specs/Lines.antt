@@ -1,13 +1,13 @@
 -- THERE AND BACK: a line that was read is written again as it was, and a line that was written is read as what it was written of.
-use Prim.Native.Nat.{ℕ, zero, suc, _+_, _-_, _*_, _^_, _≤_}
+use Prim.Native.Nat.{ℕ, suc, _+_, _-_, _*_, _^_, _≤_}
 use mathlib.Core.Path.{_≡_, refl, ap, _∙_, sym}
 use mathlib.Core.Bool.{Bool, true, false}
 use mathlib.Core.List.{List, [], _∷_, _++_}
 use native.Mathlib.Omega.{arith}
 use borrow.Author.Tests.{leb-true, leb-false, le-leb, lt-ltb, ltb-true}
 use lib.Dec.{leb, ltb}
-use lib.ListN.{length, take, drop, getD, length-append}
-use lib.Seq.{take-append-seam, getD-drop, drop-drop}
+use lib.ListN.{length, take, drop, getD}
+use lib.Seq.{take-append-seam}
 use Rattle.wire.specs.Choose.{choose, both}
 use Rattle.wire.specs.declared.Refusal.{Refusal}
 use Rattle.wire.specs.declared.Refusal.the-variants.{NoRoom, BadIndex}

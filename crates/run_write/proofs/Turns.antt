@@ -147,7 +147,7 @@ pub record Testing (s t : List ℕ) (c : ℕ) (b : Bool) (at : ℕ) : Type 0 whe
   pub place : at ≡ recordWords * i
   pub weighing : Weighing messageLimit s t c (kindOf (wideType b)) (messageLimit + 1 - width b * i) i
 
-pub test-start : (b : Bool) (s t : List ℕ) (c : ℕ) → length s ≤ messageLimit → c ≤ room t → Testing s t c b 0
+test-start : (b : Bool) (s t : List ℕ) (c : ℕ) → length s ≤ messageLimit → c ≤ room t → Testing s t c b 0
 test-start b s t c g h =
     record {
       i = 0;
