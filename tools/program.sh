@@ -2,6 +2,8 @@
 # Runs one of the programs; proves and builds it first where it is not there yet or its sources have changed since.
 #
 #   tools/program.sh NAME [ARGUMENT..]
+#
+# CAPGAUZE_PROGRAMS=DIR: the programs are there already, and nothing is proved.
 set -u
 root=$(cd "$(dirname "${BASH_SOURCE[0]}")/.." && pwd)
 name=$1
@@ -12,9 +14,9 @@ shift
 
 answer "$@"
 
-program=$root/target/bin/$name
+program=${CAPGAUZE_PROGRAMS:-$root/target/bin}/$name
 stamp=$root/target/bin/.$name.built
-rt=$(command -v rt) || fail 'the Rattle toolchain (rt) is not there'
+rt=$(command -v rt) || [ -n "${CAPGAUZE_PROGRAMS:-}" ] || fail 'the Rattle toolchain (rt) is not there'
 kit=${RATTLE_HOME:-$(dirname "$(dirname "$(readlink -f "$rt")")")}
 
 # the folders of the crate and of all that it is made from
@@ -48,7 +50,11 @@ build() {
     mv "$stamp.new" "$stamp"
 }
 
-is_built || build
+if [ -z "${CAPGAUZE_PROGRAMS:-}" ]; then
+    is_built || build
+else
+    [ -x "$program" ] || fail "there is no program $program"
+fi
 
 # A program is for x86-64; on another processor the toolchain has an emulator beside its compiler.
 tools=$kit/on/$(uname -m)/toolchain

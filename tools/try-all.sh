@@ -58,12 +58,13 @@ proved() { # NAME COMMAND..
 
 [ -n "${CAPGAUZE_ARCHIVE:-}" ] || proved library rt staticlib capgauze_c
 [ -n "${CAPGAUZE_PROGRAMS:-}" ] || proved built rt check dump soundings
+named=${CAPGAUZE_PROGRAMS:-}
 if [ "$failed" -eq 0 ]; then
     export CAPGAUZE_ARCHIVE=${CAPGAUZE_ARCHIVE:-$root/target/staticlib/libcapgauze_c.a} CAPGAUZE_PROGRAMS=${CAPGAUZE_PROGRAMS:-$root/target/bin}
     run c bindings/c/run.sh
     run rust bindings/rust/run.sh
     run python bindings/python/run.sh
-    run programs tools/try-programs.sh
+    run programs env CAPGAUZE_PROGRAMS="$named" tools/try-programs.sh # those of this folder it finds by itself
     run install tools/try-install.sh
     run readme tools/try-readme.py
 fi

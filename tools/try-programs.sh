@@ -4,6 +4,7 @@
 #
 #   tools/try-programs.sh [NAME..]
 #
+# CAPGAUZE_PROGRAMS=DIR names programs that are proved already; without it the first run proves them.
 # STREAM_MB (default 32): how many megabytes the long stream has; 1024 is a real one, and takes minutes under an emulator; 0 leaves it out.
 set -u
 root=$(cd "$(dirname "$0")/.." && pwd)
@@ -258,6 +259,7 @@ try_editions() {
 # The first run on a terminal says what it does, crate by crate. A run after it says nothing.
 try_first_run() {
     command -v script >/dev/null || { echo "$name: not tried: the first run on a terminal (no script)"; return; }
+    [ -z "${CAPGAUZE_PROGRAMS:-}" ] || { echo "$name: not tried: the first run, which proves (CAPGAUZE_PROGRAMS)"; return; }
     rm -f "target/bin/.$name.built"
     script -qc "./$name $room/a >$room/out" "$room/said" </dev/null >/dev/null
     is 'the first run: begins' "$name: proving and building it; this takes minutes the first time, and later runs start at once" \
@@ -277,7 +279,7 @@ memory_of() { # MEGABYTES
     { yes "$line" | head -n "$frames"; sleep 1; } | { "./$name" 2>"$room/err"; echo $? >"$room/status"; } | wc -l >"$room/lines" &
     most=0
     while kill -0 $! 2>/dev/null; do
-        now=$(ps -eo rss=,args= | awk -v p="$root/target/bin/$name" 'index($0, p " --status") { if ($1 > m) m = $1 } END { print m + 0 }')
+        now=$(ps -eo rss=,args= | awk -v p="${CAPGAUZE_PROGRAMS:-$root/target/bin}/$name" 'index($0, p " --status") { if ($1 > m) m = $1 } END { print m + 0 }')
         [ "$now" -le "$most" ] || most=$now
         sleep 0.2
     done
