@@ -71,6 +71,7 @@ def rows(table, counts, frames, edition):
 
 def program_below(pid, name):
     """The program itself, below the script that runs it."""
+    folder = os.environ.get("CAPGAUZE_PROGRAMS") or f"{root}/target/bin"
     while True:
         for p in filter(str.isdigit, os.listdir("/proc")):
             try:
@@ -82,7 +83,7 @@ def program_below(pid, name):
                     higher = int(f.read().rsplit(")", 1)[1].split()[1])
             except OSError:
                 continue
-            if f"{root}/target/bin/{name}".encode() in words and b"--status" in words and pid in (above, higher):
+            if f"{folder}/{name}".encode() in words and b"--status" in words and pid in (above, higher):
                 return int(p)
         time.sleep(0.01)
 
