@@ -11,16 +11,13 @@ use lib.ListN.{length, drop}
 use lib.Seq.{sets, sets-eq, length-sets}
 use Rattle.wire.specs.Choose.{choose}
 use Rattle.wire.specs.Limits.{recordWords}
-use Rattle.wire.specs.Reading.{varintAt, valueAt}
+use Rattle.wire.specs.Reading.{valueAt}
 use Rattle.wire.specs.ReadingLaws.{value-moves}
 use Rattle.wire.specs.Table.{words}
 use Rattle.wire.specs.declared.Refusal.{Refusal}
 use Rattle.wire.specs.declared.Refusal.the-variants.{Truncated}
 use Rattle.wire.specs.declared.WireType.{WireType}
-use Rattle.wire.specs.declared.WireType.the-variants.{Varint}
 use Rattle.wire.specs.declared.Value.{Value}
-use Rattle.wire.specs.declared.Value.the-variants as val
-use Rattle.wire.specs.declared.VarintFound.the-variants as varintFound
 use Rattle.wire.specs.declared.Record.{Record}
 use Rattle.wire.specs.declared.ValueFound.the-variants as valueFound
 use Rattle.entry_answer.specs.declared.RunCount.{RunCount}
@@ -30,19 +27,8 @@ use Rattle.entry_answer.specs.declared.RunValue.the-variants as value
 use Rattle.run_read.specs.Packed.{Packed, Values, Refused, leading, packedFrom, packed, packed-end, packed-value, packed-refused, leading-values}
 use Rattle.run_read.specs.Packed.{runRecord, runRecords, length-run-records}
 use Rattle.run_read.specs.Runs.{countOf, numbered, numberedOf, intoTable, Ready}
+use Rattle.run_read.specs.Short.{Reads}
 use Rattle.run_read.specs.Widths.{width, wideType, wideValue, wide-got, wide-short}
-
--- ---- a number of the run, whose end is the slice's
-
-module _ (s : List ℕ) (p : ℕ) where
-  pub number-got : (v q : ℕ) → varintAt s p ≡ varintFound.Got v q → valueFound.Got (val.Varint v) q ≡ valueAt s (length s) p Varint
-  number-got v q e = rw e
-
-  pub number-short : (r : Refusal) → varintAt s p ≡ varintFound.Refused r → length s < p + 9 → valueFound.Refused Truncated ≡ valueAt s (length s) p Varint
-  number-short r e h = rw (e, lt-ltb (length s) (p + 9) h)
-
-  pub number-refused : (r : Refusal) → varintAt s p ≡ varintFound.Refused r → p + 9 ≤ length s → valueFound.Refused r ≡ valueAt s (length s) p Varint
-  number-refused r e h = rw (e, le-ltb (length s) (p + 9) h)
 
 -- ---- the run from a place on
 
@@ -114,6 +100,13 @@ module _ {s : List ℕ} {w : WireType} {p n : ℕ} (c : Counting s w p n) where
         few = omega (arith, c .few, m .0);
         same = c .same ∙ ap (countFrom n) (y .1) ∙ count-more n v (y .0);
       }
+
+-- values that were passed
+pub count-many : {s : List ℕ} {w : WireType} {p n : ℕ} → Counting s w p n → (m q : ℕ) → Reads s w p m q → Counting s w q (n + m)
+count-many {n = n} c zero q h = let z : n + 0 ≡ n = omega arith in rw (h, z) c
+count-many {n = n} c (suc m) r h =
+    let z : n + suc m ≡ n + m + 1 = omega arith in
+    rw z (count-on (count-many c m (h .0) (h .2)) (h .1) r (h .3) (h .4))
 
 -- ---- looking for a number: found is the value there, if it was passed
 

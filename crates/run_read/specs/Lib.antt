@@ -3,3 +3,4 @@ pub mod Theorem
 pub mod Runs
 pub mod Cases
 pub mod Widths
+pub mod Short

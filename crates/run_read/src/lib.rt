@@ -1,6 +1,6 @@
 // Packed runs, read: values of one wire type behind one another, without keys. The run is the whole slice. From src/encoding/opaque.rs (`packed`) of bilrost.
 ghost use mathlib.Core.Path.{_≡_};
-ghost use Prim.Native.Nat.{_+_, _≤_, _<_, _^_};
+ghost use Prim.Native.Nat.{_+_, _/_, _≤_, _<_, _^_};
 ghost use lib.ListN.{length, take, drop};
 ghost use lib.Seq.{sets};
 ghost use Rattle.wire.specs.Limits.{recordWords, noKey};
@@ -10,6 +10,7 @@ ghost use Rattle.wire.specs.Table.{words};
 ghost use Rattle.wire.specs.declared.WireType.the-variants.{Varint, LengthDelimited};
 ghost use Rattle.run_read.specs.Packed.{packed, runRecord};
 ghost use Rattle.run_read.specs.Runs.{countOf, numberedOf, runCount, runValue, readRun, intoTable, Ready};
+ghost use Rattle.run_read.specs.Short.{Reads, goingOn, upTo, leftOpen};
 ghost use Rattle.run_read.specs.Widths.{width, wideType, wideValue, fixedCount};
 use entry_answer::Gated;
 use entry_answer::RunCount;
@@ -23,22 +24,83 @@ use wire::ValueFound;
 use wire::VarintFound;
 use wire::WireType;
 
-// A number of a run, whose end is the slice's. Most are one byte or two.
+// Numbers that were passed: how many, and where the next one begins.
+struct Passed {
+    count: usize,
+    next: usize,
+}
+
+// A number of a run, whose end is the slice's.
 // INLINE: small enough to be folded into both loops, where the value reader would be a call whose answer comes back through memory.
 fn number_from(s: &[u8], at: usize) -> ValueFound
     ensures { λ r. ⌜ r ≡ valueAt (now (s .entry)) (length (now (s .entry))) at Varint ⌝ }
 {
-    match varint_read::decode_varint(s, at) {
+    match varint_read::decode_varint_capped(s, at, s.len()) {
         VarintFound::Got(v, next) => ValueFound::Got(Value::Varint(v), next),
-        VarintFound::Refused(r) => {
-            if s.len() < 9 {
-                return ValueFound::Refused(Refusal::Truncated);
-            }
-            if s.len() - 9 < at {
-                return ValueFound::Refused(Refusal::Truncated);
-            }
-            ValueFound::Refused(r)
+        VarintFound::Refused(r) => ValueFound::Refused(r),
+    }
+}
+
+// 1 for a byte that goes on, 0 for one that ends a number.
+fn goes_on(b: u8) -> usize
+    ensures { λ r. ⌜ (r ≡ b / 128) × (r ≤ 1) ⌝ }
+{
+    b as usize / 128
+}
+
+// How many of the four bytes at a place go on.
+// INLINE: without a branch, so that the compiler takes the four as one word.
+fn going_on(s: &[u8], at: usize) -> usize
+    requires { ⌜ at + 4 ≤ length (now s) ⌝ }
+    ensures { λ r. ⌜ r ≡ goingOn (now (s .entry)) at ⌝ }
+{
+    goes_on(s[at]) + goes_on(s[at + 1]) + goes_on(s[at + 2]) + goes_on(s[at + 3])
+}
+
+// How many bytes go on up to this one, where n do before it.
+fn up_to(n: usize, b: u8) -> usize
+    requires { ⌜ n ≤ 2 ⌝ }
+    ensures { λ r. ⌜ (r ≡ upTo n b) × (r ≤ n + 1) ⌝ }
+{
+    if b < 128 { 0 } else { n + 1 }
+}
+
+// How many bytes go on right before a place, of the last three.
+fn left_open(s: &[u8], at: usize) -> usize
+    requires { ⌜ (3 ≤ at) × (at ≤ length (now s)) ⌝ }
+    ensures { λ r. ⌜ (r ≡ leftOpen (now (s .entry)) at) × (r ≤ 3) ⌝ }
+{
+    let one = up_to(0, s[at - 3]);
+    let two = up_to(one, s[at - 2]);
+    up_to(two, s[at - 1])
+}
+
+// Numbers passed four bytes at a turn, as long as one of the four ends a number: none of them then has nine bytes, and none can be too large. Behind the
+// last turn it goes back to where an unfinished number begins.
+// INLINE: with number_from alone counting takes 1.4 times as long for winds, 2.5 times for numbers below 110,000 and 7 times for those below 300.
+fn pass_short(s: &[u8], from: usize) -> Passed
+    requires { ⌜ from ≤ length (now s) ⌝ }
+    ensures { λ r. ⌜ Reads (now (s .entry)) Varint from (r .count) (r .next) ⌝ }
+{
+    let mut at = from;
+    let mut count: usize = 0;
+    while 4 <= s.len() - at {
+        let open = going_on(s, at);
+        if open == 4 {
+            break;
         }
+        count += 4 - open;
+        at += 4;
+    }
+    if at == from {
+        return Passed {
+            count: 0,
+            next: from,
+        };
+    }
+    Passed {
+        count: count,
+        next: at - left_open(s, at),
     }
 }
 
@@ -49,13 +111,18 @@ fn count_numbers(s: &[u8]) -> RunCount
     let mut p: usize = 0;
     let mut count: usize = 0;
     while p < s.len() {
-        match number_from(s, p) {
-            ValueFound::Refused(r) => {
-                return RunCount::Refused(r);
-            }
-            ValueFound::Got(_, next) => {
-                p = next;
-                count += 1;
+        let short = pass_short(s, p);
+        p = short.next;
+        count += short.count;
+        if p < s.len() {
+            match number_from(s, p) {
+                ValueFound::Refused(r) => {
+                    return RunCount::Refused(r);
+                }
+                ValueFound::Got(_, next) => {
+                    p = next;
+                    count += 1;
+                }
             }
         }
     }

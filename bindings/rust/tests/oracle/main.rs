@@ -79,6 +79,22 @@ fn short_ones() {
     println!("{} answers, none differs", against.answers);
 }
 
+/// Three numbers of every length behind one another, whole and cut behind every byte.
+#[test]
+fn numbers_of_every_length() {
+    let mut against = Against::new(0);
+    for [more, last, ninth] in [[0x80, 0x00, 0x00], [0xFF, 0x7F, 0xFE], [0xFF, 0x7F, 0xFF]] {
+        let number = |n| [vec![more; n], vec![if n < 8 { last } else { ninth }]].concat();
+        for lengths in 0..9 * 9 * 9 {
+            let run = [lengths / 81, lengths / 9 % 9, lengths % 9].map(number).concat();
+            for cut in 0..=run.len() {
+                against.run_as(&run[..cut], 0);
+            }
+        }
+    }
+    println!("{} answers, none differs", against.answers);
+}
+
 /// Every slice of up to four bytes of four under every one of them.
 #[test]
 fn short_corrections() {
