@@ -115,13 +115,14 @@ pub fn step_fault(s: &[u8], at: usize, end: usize, last: u32) -> Fault {
 }
 
 /// Of refused skipping: the value that failed may be a later one. A value alone is skipped under the end 0.
-pub fn skip_fault(s: &[u8], at: usize, end: usize, kind: u8) -> Fault {
-    match Blob::skip(s, at, 0, kind) {
-        Ok(behind) if behind < end && behind < s.len() && s[behind] < 4 => {
-            skip_fault(s, behind + 1, end, s[behind])
+pub fn skip_fault(s: &[u8], mut at: usize, end: usize, mut kind: u8) -> Fault {
+    while let Ok(behind) = Blob::skip(s, at, 0, kind) {
+        match s.get(behind) {
+            Some(&next @ 0..4) if behind < end => (at, kind) = (behind + 1, next),
+            _ => break,
         }
-        _ => value_fault(s, at, kind),
     }
+    value_fault(s, at, kind)
 }
 
 /// Of a refused message, field by field from its start; the loop's top names the place reached.
