@@ -281,7 +281,7 @@ static Load load(const char *name, uint64_t seed, Msg make(size_t), size_t size,
     return l;
 }
 
-/* ---- Packed runs: a column of winds, one in 40 missing (all ones); fixed values ---- */
+/* ---- Packed runs: a column of winds, one in 40 missing (all ones); of pressures; of numbers of every length; fixed values ---- */
 
 static void value(Msg *m, uint64_t type, uint64_t v) {
     if (type == 0) put_bilrost(&m->bil, v), record(m, 0, v, 0);
@@ -297,10 +297,13 @@ static void value(Msg *m, uint64_t type, uint64_t v) {
     record(m, type, v, n);
     for (size_t i = 0; i < n; i++) put(&m->bil, v >> 8 * i);
 }
-static Load run(const char *name, uint64_t type, size_t count) {
+static uint64_t a_wind(void) { return below(40) ? below(6000) : UINT64_MAX; }
+static uint64_t a_pressure(void) { return below(110000); }
+static uint64_t any_length(void) { return next() >> below(64); }
+static Load run(const char *name, uint64_t type, size_t count, uint64_t number(void)) {
     state = 10 + type;
     Msg m = {.key = NO_KEY};
-    while (m.n < count) value(&m, type, type ? next() : below(40) ? below(6000) : UINT64_MAX);
+    while (m.n < count) value(&m, type, number());
     if (m.bil.n > MESSAGE_LIMIT) abort();
     Load l = {.name = name, .good = 1, .run = 1, .type = type, .fields = m.n, .all_fields = m.n, .records = m.rec,
               .len = m.bil.n};
@@ -376,12 +379,16 @@ size_t make_loads(Load *out) {
         load("I2", 1, behind_of_four, 2000, 1, 0),
         load("I4", 1, behind_of_four, 4000, 1, 0),
         load("I8", 1, behind_of_one, 8000, 1, 0),
-        run("RV", 0, 1000),
-        run("RV+", 0, 100000),
-        run("R4", 2, 1000),
-        run("R4+", 2, 100000),
-        run("R8", 3, 1000),
-        run("R8+", 3, 100000),
+        run("RV", 0, 1000, a_wind),
+        run("RV+", 0, 100000, a_wind),
+        run("RP", 0, 1000, a_pressure),
+        run("RP+", 0, 100000, a_pressure),
+        run("RN", 0, 1000, any_length),
+        run("RN+", 0, 100000, any_length),
+        run("R4", 2, 1000, next),
+        run("R4+", 2, 100000, next),
+        run("R8", 3, 1000, next),
+        run("R8+", 3, 100000, next),
         copy("E", 120, 0),
         copy("EL", 4000, 0),
         copy("EF", 4000, 10),
