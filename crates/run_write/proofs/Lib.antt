@@ -1,3 +1,4 @@
+pub mod Short
 pub mod Turns
 pub mod Whole
 pub mod Only

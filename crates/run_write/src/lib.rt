@@ -2,6 +2,7 @@
 // From src/encoding/opaque.rs (`packed`) of bilrost.
 ghost use mathlib.Core.Path.{_≡_};
 ghost use Prim.Native.Nat.{_+_, _-_, _≤_, _<_, _^_};
+ghost use mathlib.Core.List.{[], _∷_};
 ghost use lib.ListN.{length};
 ghost use lib.Seq.{sets};
 ghost use Rattle.place.specs.Spans.{Spans};
@@ -36,9 +37,9 @@ fn value_len(kind: u64, value: u64, length: u64) -> usize
 {
     if kind < 2 {
         if kind == 0 {
-            return varint_write::encoded_len_varint(value);
+            return varint_write::count_len(value);
         }
-        return varint_write::encoded_len_varint(length) + length as usize;
+        return varint_write::count_len(length) + length as usize;
     }
     if kind == 2 {
         return 4;
@@ -226,6 +227,16 @@ fn fit(source: &[u8], table: &[u64], count: usize, kind: u64, bytes: usize) -> W
 
 // ---- put: each function takes the place where its bytes start, and answers the one behind them
 
+fn put_pair(buf: &mut [u8], at: usize, low: u64, high: u64)
+    requires { ⌜ (low < 256) × (high < 256) × (at + 2 ≤ length (now buf)) ⌝ }
+    ensures { λ _. ⌜ now (buf .exit) ≡ sets (now (buf .entry)) at (low ∷ high ∷ []) ⌝ }
+{
+    buf[at] = low as u8;
+    buf[at + 1] = high as u8;
+}
+
+// A number, for which there is room.
+// INLINE: up to three bytes are put here, and not by a call.
 fn put_number(buf: &mut [u8], at: usize, v: u64) -> usize
     requires { ⌜ at + length (encode v) ≤ length (now buf) ⌝ }
     ensures { λ n. ⌜ Spans (now (buf .entry)) at n (encode v) (now (buf .exit)) ⌝ }
@@ -233,6 +244,17 @@ fn put_number(buf: &mut [u8], at: usize, v: u64) -> usize
     if v < 128 {
         buf[at] = v as u8;
         return at + 1;
+    }
+    let x = v / 128 - 1;
+    if x < 128 {
+        put_pair(buf, at, 128 + v % 128, x);
+        return at + 2;
+    }
+    let y = x / 128 - 1;
+    if y < 128 {
+        put_pair(buf, at, 128 + v % 128, 128 + x % 128);
+        buf[at + 2] = y as u8;
+        return at + 3;
     }
     varint_write::put_varint(buf, at, v)
 }
