@@ -7,6 +7,7 @@
 set -eu
 cd "$(dirname "$0")"
 (cd bilrost && sha256sum --quiet --check ../held.sha256)
+cmp list ../crates/replay/data/list
 mkdir -p target/bin
 build() {
     name=$1 profile=$2

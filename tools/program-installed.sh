@@ -8,4 +8,4 @@ help() { cat "$here/$name.help"; }
 version() { cat "$here/$name.version"; }
 . "$here/program-run.sh"
 answer "$@"
-run "$here/$name" --status "$@"
+run "$here/$name" "$@"

@@ -19,13 +19,12 @@ answer() { # ARGUMENT..
     done
 }
 
-# The language has no exit status. A program that was asked to (--status) writes its status as a digit to descriptor 3 as its last act, and
-# here it becomes the exit status. No digit is 1, so a program that ends in any other way has failed.
+# A program ends with its own status. The language's runtime ignores SIGPIPE for it, so where nobody reads its output any more it ends with that
+# signal's status, 141, by itself, as other filters do; that is 1 where its caller ignores the signal.
 run() { # PROGRAM ARGUMENT..
-    local digit ended
-    exec 4>&1
-    digit=$("$@" 3>&1 >&4 4>&-)
+    local ended
+    "$@"
     ended=$?
-    [ "$ended" -eq 0 ] || exit "$ended"
-    exit "${digit:-1}"
+    [ "$ended" -ne 141 ] || [ -z "$(trap -p PIPE)" ] || ended=1
+    exit "$ended"
 }

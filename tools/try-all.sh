@@ -50,14 +50,14 @@ run() { # NAME COMMAND.., if the part was named
     "$@" >"$said/$name" 2>&1 </dev/null
     tell $? "$name" $((SECONDS - start))
 }
-proved() { # NAME COMMAND..
+proved() { # NAME WHAT, for tools/build.sh
     local start=$SECONDS
-    prove "$said/$1" "${@:2}"
+    prove "$said/$1" "$2"
     tell $? "$1" $((SECONDS - start))
 }
 
-[ -n "${CAPGAUZE_ARCHIVE:-}" ] || proved library rt staticlib capgauze_c
-[ -n "${CAPGAUZE_PROGRAMS:-}" ] || proved built rt check dump soundings
+[ -n "${CAPGAUZE_ARCHIVE:-}" ] || proved library library
+[ -n "${CAPGAUZE_PROGRAMS:-}" ] || proved built programs
 named=${CAPGAUZE_PROGRAMS:-}
 if [ "$failed" -eq 0 ]; then
     export CAPGAUZE_ARCHIVE=${CAPGAUZE_ARCHIVE:-$root/target/staticlib/libcapgauze_c.a} CAPGAUZE_PROGRAMS=${CAPGAUZE_PROGRAMS:-$root/target/bin}

@@ -60,7 +60,7 @@ if [ -n "${CAPGAUZE_PROGRAMS:-}" ]; then
     proved+=(CAPGAUZE_PROGRAMS=/root/programs)
 fi
 if command -v rt >/dev/null; then
-    kit=$(dirname "$(dirname "$(rt doc)")")
+    kit=$(dirname "$(dirname "$(readlink -f "$(command -v rt)")")")
     show "$kit" -o ro
     ln -sf "$kit/bin/rt" "$room/usr/local/bin/rt"
 fi

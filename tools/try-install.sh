@@ -157,15 +157,15 @@ try_refusals() {
     is 'a folder that may not be written: error' "install: $room/shut may not be written" "$err"
 }
 
-# What is not proved is not installed; each crate's line is shown as it comes. Another `rt` stands in, which proves one crate and fails at the next.
+# What is not proved is not installed; each crate's line is shown as it comes. Another `rt` stands in, which proves one crate and fails at all others.
 try_failed_proof() {
     mkdir "$room/stand-in"
-    printf '#!/bin/sh\n[ "$1" != version ] || exit\necho "fn wire::good_head: proved"\necho "rt: wire proved (15 s)"\necho "rt: place failed"\nexit 1\n' \
-        >"$room/stand-in/rt"
+    echo stand-in >"$room/KIT-ID"
+    printf '#!/bin/sh\n[ "$1" != version ] || exit\necho "fn some::function: proved"\ncase $PWD in */wire) exit ;; esac\nsleep 1\nexit 1\n' >"$room/stand-in/rt"
     chmod +x "$room/stand-in/rt"
     env -u CAPGAUZE_ARCHIVE -u CAPGAUZE_PROGRAMS PATH="$room/stand-in:$PATH" ./install --prefix "$room/unproved" >"$room/out" 2>"$room/err"
     is 'not proved: status' 1 $?
-    is 'not proved: shown' "$(printf 'rt: wire proved (15 s)\nrt: place failed')" "$(sed -n 2,3p "$room/err")"
+    is 'not proved: shown' "$(printf 'rt: wire proved (N s)\nrt: NAME failed')" "$(sed -n '2,3{s/(.* s)/(N s)/; s/: .* failed/: NAME failed/; p}' "$room/err")"
     is 'not proved: the end' "install: the library: not proved, and nothing was changed; $root/target/install-library.said has all that was said" \
         "$(tail -n 1 "$room/err")"
     is 'not proved: nothing is there' '' "$(find "$room/unproved" 2>/dev/null)"

@@ -79,11 +79,9 @@ def program_below(pid, name):
                     words = f.read().split(b"\0")
                 with open(f"/proc/{p}/stat") as f:
                     above = int(f.read().rsplit(")", 1)[1].split()[1])
-                with open(f"/proc/{above}/stat") as f:
-                    higher = int(f.read().rsplit(")", 1)[1].split()[1])
             except OSError:
                 continue
-            if f"{folder}/{name}".encode() in words and b"--status" in words and pid in (above, higher):
+            if words[0] == f"{folder}/{name}".encode() and pid == above:
                 return int(p)
         time.sleep(0.01)
 

@@ -279,7 +279,7 @@ memory_of() { # MEGABYTES
     { yes "$line" | head -n "$frames"; sleep 1; } | { "./$name" 2>"$room/err"; echo $? >"$room/status"; } | wc -l >"$room/lines" &
     most=0
     while kill -0 $! 2>/dev/null; do
-        now=$(ps -eo rss=,args= | awk -v p="${CAPGAUZE_PROGRAMS:-$root/target/bin}/$name" 'index($0, p " --status") { if ($1 > m) m = $1 } END { print m + 0 }')
+        now=$(ps -eo rss=,args= | awk -v p="${CAPGAUZE_PROGRAMS:-$root/target/bin}/$name" '$2 == p && NF == 2 { if ($1 > m) m = $1 } END { print m + 0 }')
         [ "$now" -le "$most" ] || most=$now
         sleep 0.2
     done

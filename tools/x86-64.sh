@@ -1,4 +1,4 @@
-# Sourced by the scripts that link the archive of `rt staticlib`, which is for x86-64 Linux. It sets CC, CXX and RUN, what
+# Sourced by the scripts that link the archive of tools/build.sh, which is for x86-64 Linux. It sets CC, CXX and RUN, what
 # a program is run by: nothing, on x86-64. Elsewhere a cross compiler and an emulator take their place, e.g. Debian's
 # g++-x86-64-linux-gnu and qemu-user; QEMU_LD_PREFIX names the folder with the x86-64 libraries, and cargo needs the
 # standard library for that target. A time taken under an emulator says nothing.
@@ -17,7 +17,7 @@ fi
 # The archive: $CAPGAUZE_ARCHIVE, or the one that is proved and written here.
 archive() {
     if [ -z "${CAPGAUZE_ARCHIVE:-}" ]; then
-        (cd "$root" && rt staticlib capgauze_c) >&2
+        "$root/tools/build.sh" library >&2
         CAPGAUZE_ARCHIVE=$root/target/staticlib/libcapgauze_c.a
     fi
     export CAPGAUZE_ARCHIVE

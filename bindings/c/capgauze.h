@@ -1,7 +1,7 @@
 /* Capgauze: a proved reader and writer of Bilrost messages, for C99 and C++ on x86-64 Linux.
  *
  * `./install` puts the library in place, and `pkg-config --cflags --libs capgauze` then says how to compile and link.
- * Without it link target/staticlib/libcapgauze_c.a, which `rt staticlib capgauze_c` proves and writes.
+ * Without it link target/staticlib/libcapgauze_c.a, which `tools/build.sh library` proves and writes.
  *
  * This is the one declaration of the interface: what other languages declare is made from it or held against it. So each
  * function and struct is one statement in plain words, and no macro stands in it.

@@ -18,7 +18,7 @@ sys.path.insert(0, str(HERE))
 import header  # noqa: E402
 
 ROOT = HERE.parent.parent
-NOT_BUILT = ("the library is not built: `rt staticlib capgauze_c` proves and writes target/staticlib/libcapgauze_c.a; "
+NOT_BUILT = ("the library is not built: `tools/build.sh library` proves and writes target/staticlib/libcapgauze_c.a; "
              "or set CAPGAUZE_ARCHIVE to an archive, or PKG_CONFIG_PATH to where capgauze.pc was installed")
 # A class for each enum of the header, by its first member, and what its members' names begin with.
 ENUMS = {"CAPGAUZE_ACCEPTED": ("Refusal", "CAPGAUZE_"), "CAPGAUZE_VARINT": ("WireType", "CAPGAUZE_"),

@@ -1,4 +1,4 @@
-//! Links the proved archive: $CAPGAUZE_ARCHIVE, or the one that `rt staticlib capgauze_c` writes in this repository.
+//! Links the proved archive: $CAPGAUZE_ARCHIVE, or the one that `tools/build.sh library` writes in this repository.
 use std::path::{Path, PathBuf};
 
 fn main() {
@@ -8,7 +8,7 @@ fn main() {
         .map(PathBuf::from)
         .unwrap_or_else(|| here.join("../../target/staticlib/libcapgauze_c.a"));
     let archive = archive.canonicalize().unwrap_or_else(|_| {
-        panic!("no {}: `rt staticlib capgauze_c` proves and writes it", archive.display())
+        panic!("no {}: `tools/build.sh library` proves and writes it", archive.display())
     });
     let stem = archive.file_stem().and_then(|stem| stem.to_str());
     let name = stem.and_then(|stem| stem.strip_prefix("lib")).expect("an archive is libNAME.a");

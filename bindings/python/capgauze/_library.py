@@ -11,7 +11,7 @@ try:
 except ImportError as missing:
     if missing.name == "_cffi_backend":
         raise ImportError("capgauze needs cffi (Debian: python3-cffi)") from None
-    raise ImportError("capgauze is not built: bindings/python/build.sh builds it, of the archive that `rt staticlib capgauze_c` "
+    raise ImportError("capgauze is not built: bindings/python/build.sh builds it, of the archive that `tools/build.sh library` "
                       f"proves and writes ({missing})") from None
 
 from .refusals import READING, Refused

@@ -1,6 +1,6 @@
 //! Capgauze: a proved reader and writer of Bilrost messages.
 //!
-//! Every function here calls entries of the static library that `rt staticlib capgauze_c` proves and writes (x86-64
+//! Every function here calls entries of the static library that `tools/build.sh library` proves and writes (x86-64
 //! Linux); the types only put names on its numbers. No wrapper refuses anything itself. A refused call leaves all that
 //! it was lent as it was. Over an archive of this version nothing panics. The crate needs neither `std` nor, without the
 //! feature `alloc`, an allocator.

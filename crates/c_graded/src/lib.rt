@@ -1,4 +1,6 @@
 // A graded sounding for C: the grade that a number names, and the words of the answer.
+#![tactic(auto)]
+
 ghost use Rattle.std.specs.Prelude.{◌≡◌};
 ghost use Rattle.sounding_graded.specs.Told.{graded_told};
 ghost use Rattle.sounding_grade.specs.Grades.{grade_number};
@@ -8,14 +10,14 @@ use sounding_grade::Grade;
 use sounding_graded::Graded;
 
 // What a number that a caller gave as the least grade is: a grade, or none.
-#[derive(Drop)]
+#[derive(Clone, Copy)]
 pub enum Least {
     Is(Grade),
     Unknown,
 }
 
 #[repr(C)]
-#[derive(Drop)]
+#[derive(Clone, Copy)]
 pub struct GradedWords {
     pub number: u64,
     pub station: u64,

@@ -1,4 +1,6 @@
 // The words that C is handed for each answer: plain structs whose first word is the number of rule R1. `told` says what the others are.
+#![tactic(auto)]
+
 ghost use Rattle.std.specs.Prelude.{◌≡◌};
 ghost use Rattle.wire.specs.Table.{kind_word, value_word, length_word};
 ghost use Rattle.entry_answer.specs.Told.{put_told, varint_told, read_told, picked_told, several_told, early_told, key_len_told, key_told, value_told};
@@ -19,14 +21,14 @@ use wire::{Early, Field, Inserted, Read, Value, WireType, Written};
 
 // A length or a count.
 #[repr(C)]
-#[derive(Drop)]
+#[derive(Clone, Copy)]
 pub struct Number {
     pub number: u64,
     pub value: u64,
 }
 
 #[repr(C)]
-#[derive(Drop)]
+#[derive(Clone, Copy)]
 pub struct Varint {
     pub number: u64,
     pub value: u64,
@@ -35,7 +37,7 @@ pub struct Varint {
 }
 
 #[repr(C)]
-#[derive(Drop)]
+#[derive(Clone, Copy)]
 pub struct ReadWords {
     pub number: u64,
     pub place: u64,
@@ -45,7 +47,7 @@ pub struct ReadWords {
 }
 
 #[repr(C)]
-#[derive(Drop)]
+#[derive(Clone, Copy)]
 pub struct PickWords {
     pub number: u64,
     pub found: u64,
@@ -56,7 +58,7 @@ pub struct PickWords {
 
 // A lookup that counts: how many fields of the tag there are, or how many keys were read; and the field that was found.
 #[repr(C)]
-#[derive(Drop)]
+#[derive(Clone, Copy)]
 pub struct LookupWords {
     pub number: u64,
     pub many: u64,
@@ -67,14 +69,14 @@ pub struct LookupWords {
 }
 
 #[repr(C)]
-#[derive(Drop)]
+#[derive(Clone, Copy)]
 pub struct Part {
     pub start: u64,
     pub length: u64,
 }
 
 #[repr(C)]
-#[derive(Drop)]
+#[derive(Clone, Copy)]
 pub struct KeyWords {
     pub number: u64,
     pub tag: u64,
@@ -85,7 +87,7 @@ pub struct KeyWords {
 }
 
 #[repr(C)]
-#[derive(Drop)]
+#[derive(Clone, Copy)]
 pub struct ValueWords {
     pub number: u64,
     pub value: u64,
@@ -96,7 +98,7 @@ pub struct ValueWords {
 }
 
 #[repr(C)]
-#[derive(Drop)]
+#[derive(Clone, Copy)]
 pub struct PlaceWords {
     pub number: u64,
     pub place: u64,
@@ -105,7 +107,7 @@ pub struct PlaceWords {
 }
 
 #[repr(C)]
-#[derive(Drop)]
+#[derive(Clone, Copy)]
 pub struct StepWords {
     pub number: u64,
     pub found: u64,
@@ -119,7 +121,7 @@ pub struct StepWords {
 }
 
 #[repr(C)]
-#[derive(Drop)]
+#[derive(Clone, Copy)]
 pub struct WrittenWords {
     pub number: u64,
     pub start: u64,
@@ -127,14 +129,14 @@ pub struct WrittenWords {
 }
 
 // What a number that a caller gave as a kind is: a wire type, or none.
-#[derive(Drop)]
+#[derive(Clone, Copy)]
 pub enum Typed {
     Is(WireType),
     Unknown,
 }
 
 #[repr(C)]
-#[derive(Drop)]
+#[derive(Clone, Copy)]
 pub struct SoundingWords {
     pub number: u64,
     pub station: u64,
@@ -144,7 +146,7 @@ pub struct SoundingWords {
 
 // Which message supplies a tag: 1 the original, 2 the correction, 0 none.
 #[repr(C)]
-#[derive(Drop)]
+#[derive(Clone, Copy)]
 pub struct SupplierWords {
     pub number: u64,
     pub supplier: u64,
@@ -165,7 +167,7 @@ pub fn typed_of(kind: u64) -> Typed
 
 // ---- the words of each answer
 
-#[derive(Drop)]
+#[derive(Clone, Copy)]
 struct ValueParts {
     kind: u64,
     value: u64,

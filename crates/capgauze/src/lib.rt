@@ -1,4 +1,5 @@
 // The face: every entry that a caller has, and every answer, by one name. Each stands with its contract in the crate that it is taken from.
+#![tactic(auto)]
 
 // ---- answers
 pub use entry_answer::{

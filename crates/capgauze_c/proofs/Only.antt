@@ -69,7 +69,7 @@ use Rattle.capgauze_c.proofs.capgauze_read_line.Kinds as read-line
 use Rattle.capgauze_c.proofs.capgauze_read_line.Reads as read-line-reads
 use Rattle.capgauze_c.proofs.capgauze_run_count.Kinds as run-count
 use Rattle.capgauze_c.proofs.capgauze_run_count.Reads as run-count-reads
-use Rattle.capgauze_c.proofs.capgauze_run_value.Kinds as run_value_lem
+use Rattle.capgauze_c.proofs.capgauze_run_value.Kinds as run-value
 use Rattle.capgauze_c.proofs.capgauze_run_value.Reads as run-value-reads
 use Rattle.capgauze_c.proofs.capgauze_read_run.Kinds as read-run
 use Rattle.capgauze_c.proofs.capgauze_read_run.Reads as read-run-reads
@@ -190,7 +190,7 @@ read-line-one κs a x y s t p q = p ∙ sym q
 pub run-count-one : One 1 run-count.ps run-count.r run-count-reads.Post (λ κs r s. as_number r)
 run-count-one κs a x y s t p q = p ∙ sym q
 
-pub run-value-one : One 1 run_value_lem.ps run_value_lem.r run-value-reads.Post (λ κs r s. as_picked r)
+pub run-value-one : One 1 run-value.ps run-value.r run-value-reads.Post (λ κs r s. as_picked r)
 run-value-one κs a x y s t p q = p ∙ sym q
 
 pub read-run-one : One 2 read-run.ps read-run.r read-run-reads.Post {S = Lent told.Number}

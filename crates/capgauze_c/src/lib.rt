@@ -1,6 +1,8 @@
-// The face for C: an exported function for each entry, with numbers, slices and plain structs; the held reader and what goes through it, `more_at`,
+// The face for C: a function for each entry, with numbers, slices and plain structs; the held reader and what goes through it, `more_at`,
 // `copy_message` and a wire type's number have none. Every answer that can be refused is a struct whose first word is the number of rule R1. A wire type
-// passes as a number; one above 3 is BadRecord, before all else (R10).
+// passes as a number; one above 3 is BadRecord, before all else (R10). `capgauze_exports` exports each function under its name.
+#![tactic(auto)]
+
 ghost use Rattle.std.specs.Prelude.{◌≡◌, length as size};
 ghost use Rattle.wire.specs.Varint.{encode};
 ghost use Rattle.wire.specs.Signed.{to_unsigned, to_signed};
@@ -46,56 +48,49 @@ use capgauze::{
 // ---- varints
 
 // How many bytes a number is written as.
-#[unsafe(no_mangle)]
-pub extern "C" fn capgauze_encoded_len_varint(v: u64) -> u64
+pub fn capgauze_encoded_len_varint(v: u64) -> u64
     ensures { result ≡ size (encode v) }
 {
     capgauze::encoded_len_varint(v) as u64
 }
 
 // A signed number as an unsigned one.
-#[unsafe(no_mangle)]
-pub extern "C" fn capgauze_i64_to_unsigned(v: i64) -> u64
+pub fn capgauze_i64_to_unsigned(v: i64) -> u64
     ensures { result ≡ to_unsigned v }
 {
     capgauze::i64_to_unsigned(v)
 }
 
 // Its inverse.
-#[unsafe(no_mangle)]
-pub extern "C" fn capgauze_u64_to_signed(u: u64) -> i64
+pub fn capgauze_u64_to_signed(u: u64) -> i64
     ensures { result ≡ to_signed u }
 {
     capgauze::u64_to_signed(u)
 }
 
 // The varint at a place.
-#[unsafe(no_mangle)]
-pub extern "C" fn capgauze_decode_varint(s: &[u8], at: usize) -> Varint
+pub fn capgauze_decode_varint(s: &[u8], at: usize) -> Varint
     ensures { as_varint result ≡ varint_told (decode_varint s.now at) }
 {
     c_words::varint_words(capgauze::decode_varint(s, at))
 }
 
 // The varint of a key or a value under an end.
-#[unsafe(no_mangle)]
-pub extern "C" fn capgauze_decode_varint_capped(s: &[u8], at: usize, end: usize) -> Varint
+pub fn capgauze_decode_varint_capped(s: &[u8], at: usize, end: usize) -> Varint
     ensures { as_varint result ≡ varint_told (decode_varint_capped s.now at end) }
 {
     c_words::varint_words(capgauze::decode_varint_capped(s, at, end))
 }
 
 // A number's bytes at the buffer's front.
-#[unsafe(no_mangle)]
-pub extern "C" fn capgauze_encode_varint(v: u64, buf: &mut [u8]) -> Number
+pub fn capgauze_encode_varint(v: u64, buf: &mut [u8]) -> Number
     ensures { record { told = as_number result; lent = buf.new } ≡ stored_told (at_front buf.old (encode v)) }
 {
     c_words::put_words(capgauze::encode_varint(v, buf))
 }
 
 // A number's bytes at the buffer's end.
-#[unsafe(no_mangle)]
-pub extern "C" fn capgauze_prepend_varint(v: u64, buf: &mut [u8]) -> Number
+pub fn capgauze_prepend_varint(v: u64, buf: &mut [u8]) -> Number
     ensures { record { told = as_number result; lent = buf.new } ≡ stored_told (at_end buf.old (encode v)) }
 {
     c_words::put_words(capgauze::prepend_varint(v, buf))
@@ -104,16 +99,14 @@ pub extern "C" fn capgauze_prepend_varint(v: u64, buf: &mut [u8]) -> Number
 // ---- keys, values, one field
 
 // The key at a place.
-#[unsafe(no_mangle)]
-pub extern "C" fn capgauze_decode_key(s: &[u8], at: usize, end: usize, last: u32) -> KeyWords
+pub fn capgauze_decode_key(s: &[u8], at: usize, end: usize, last: u32) -> KeyWords
     ensures { as_key result ≡ key_told (decode_key s.now at end last) }
 {
     c_words::key_words(capgauze::decode_key(s, at, end, last))
 }
 
 // A key's bytes at the buffer's front.
-#[unsafe(no_mangle)]
-pub extern "C" fn capgauze_encode_key(last: u32, tag: u32, kind: u64, buf: &mut [u8]) -> Number
+pub fn capgauze_encode_key(last: u32, tag: u32, kind: u64, buf: &mut [u8]) -> Number
     ensures { record { told = as_number result; lent = buf.new }
         ≡ key_stored buf.old (typed_of kind) (key_at_front buf.old last tag) }
 {
@@ -124,8 +117,7 @@ pub extern "C" fn capgauze_encode_key(last: u32, tag: u32, kind: u64, buf: &mut 
 }
 
 // A key's bytes at the buffer's end.
-#[unsafe(no_mangle)]
-pub extern "C" fn capgauze_prepend_key(last: u32, tag: u32, kind: u64, buf: &mut [u8]) -> Number
+pub fn capgauze_prepend_key(last: u32, tag: u32, kind: u64, buf: &mut [u8]) -> Number
     ensures { record { told = as_number result; lent = buf.new }
         ≡ key_stored buf.old (typed_of kind) (key_at_end buf.old last tag) }
 {
@@ -136,16 +128,14 @@ pub extern "C" fn capgauze_prepend_key(last: u32, tag: u32, kind: u64, buf: &mut
 }
 
 // How many bytes a key takes.
-#[unsafe(no_mangle)]
-pub extern "C" fn capgauze_key_len(last: u32, tag: u32) -> Number
+pub fn capgauze_key_len(last: u32, tag: u32) -> Number
     ensures { as_number result ≡ key_len_told (key_len last tag) }
 {
     c_words::key_len_words(capgauze::key_len(last, tag))
 }
 
 // The value of a type at a place.
-#[unsafe(no_mangle)]
-pub extern "C" fn capgauze_decode_value(s: &[u8], at: usize, end: usize, kind: u64) -> ValueWords
+pub fn capgauze_decode_value(s: &[u8], at: usize, end: usize, kind: u64) -> ValueWords
     ensures { as_value result ≡ value_typed at (typed_of kind) (λ w. value_told (decode_value s.now at end w)) }
 {
     let Typed::Is(wire) = c_words::typed_of(kind) else {
@@ -156,8 +146,7 @@ pub extern "C" fn capgauze_decode_value(s: &[u8], at: usize, end: usize, kind: u
 }
 
 // The place behind a value and the fields of its tag that follow.
-#[unsafe(no_mangle)]
-pub extern "C" fn capgauze_skip_field(s: &[u8], at: usize, end: usize, kind: u64) -> PlaceWords
+pub fn capgauze_skip_field(s: &[u8], at: usize, end: usize, kind: u64) -> PlaceWords
     ensures { as_place result ≡ place_typed at (typed_of kind) (λ w. skipped_told (skip_field s.now at end w)) }
 {
     let Typed::Is(wire) = c_words::typed_of(kind) else {
@@ -168,8 +157,7 @@ pub extern "C" fn capgauze_skip_field(s: &[u8], at: usize, end: usize, kind: u64
 }
 
 // One step of a message.
-#[unsafe(no_mangle)]
-pub extern "C" fn capgauze_step_at(s: &[u8], at: usize, end: usize, last: u32) -> StepWords
+pub fn capgauze_step_at(s: &[u8], at: usize, end: usize, last: u32) -> StepWords
     ensures { as_step result ≡ step_told at last (step_entry s.now at end last) }
 {
     c_words::step_words(at, last, capgauze::step_at(s, at, end, last))
@@ -178,28 +166,14 @@ pub extern "C" fn capgauze_step_at(s: &[u8], at: usize, end: usize, last: u32) -
 // ---- messages
 
 // A message read into a table.
-#[unsafe(no_mangle)]
-pub extern "C" fn capgauze_read_message(
-    s: &[u8],
-    start: usize,
-    end: usize,
-    table: &mut [u64],
-) -> ReadWords
+pub fn capgauze_read_message(s: &[u8], start: usize, end: usize, table: &mut [u64]) -> ReadWords
     ensures { record { told = as_read result; lent = table.new } ≡ outcome_told (read_entry s.now start end table.old) }
 {
     c_words::read_words(capgauze::read_message(s, start, end, table))
 }
 
 // Where a record's payload stands in the message.
-#[unsafe(no_mangle)]
-pub extern "C" fn capgauze_payload_of(
-    s: &[u8],
-    tag: u64,
-    kind: u64,
-    value: u64,
-    length: u64,
-    key: u64,
-) -> Part
+pub fn capgauze_payload_of(s: &[u8], tag: u64, kind: u64, value: u64, length: u64, key: u64) -> Part
     ensures { as_part result ≡ span_of (size s.now) (record { tag = tag; kind = kind; value = value; length = length; key = key }) }
 {
     let r = Record {
@@ -217,9 +191,8 @@ pub extern "C" fn capgauze_payload_of(
 }
 
 // A record's payload read as a message in itself.
-// INLINE: handed on to the export, so that the reader has one caller and is folded into it; with a second one counts were 7 to 12 % higher.
-#[unsafe(no_mangle)]
-pub extern "C" fn capgauze_read_payload(
+// INLINE: handed on to the function for C, so that the reader has one caller and is folded into it; with a second one counts were 7 to 12 % higher.
+pub fn capgauze_read_payload(
     s: &[u8],
     tag: u64,
     kind: u64,
@@ -243,24 +216,21 @@ pub extern "C" fn capgauze_read_payload(
 }
 
 // The only field of a tag; Repeated where there are more.
-#[unsafe(no_mangle)]
-pub extern "C" fn capgauze_pick(s: &[u8], tag: u32) -> PickWords
+pub fn capgauze_pick(s: &[u8], tag: u32) -> PickWords
     ensures { as_picked result ≡ picked_told (pick_entry s.now tag) }
 {
     c_words::pick_words(capgauze::pick(s, tag))
 }
 
 // How many fields there are of a tag, and the one at a number, counted from 0.
-#[unsafe(no_mangle)]
-pub extern "C" fn capgauze_pick_at(s: &[u8], tag: u32, number: usize) -> LookupWords
+pub fn capgauze_pick_at(s: &[u8], tag: u32, number: usize) -> LookupWords
     ensures { as_several result ≡ several_told (several_entry s.now tag number) }
 {
     c_words::several_words(capgauze::pick_at(s, tag, number))
 }
 
 // The only field of a tag before the first key above it, and the number of keys read.
-#[unsafe(no_mangle)]
-pub extern "C" fn capgauze_pick_early(s: &[u8], tag: u32) -> LookupWords
+pub fn capgauze_pick_early(s: &[u8], tag: u32) -> LookupWords
     ensures { as_early result ≡ early_told (early_entry s.now tag) }
 {
     c_words::early_words(capgauze::pick_early(s, tag))
@@ -269,8 +239,7 @@ pub extern "C" fn capgauze_pick_early(s: &[u8], tag: u32) -> LookupWords
 // ---- writing
 
 // The message of a table's records at the buffer's front.
-#[unsafe(no_mangle)]
-pub extern "C" fn capgauze_encode_message(
+pub fn capgauze_encode_message(
     source: &[u8],
     table: &[u64],
     count: usize,
@@ -283,8 +252,7 @@ pub extern "C" fn capgauze_encode_message(
 }
 
 // The same at the buffer's end.
-#[unsafe(no_mangle)]
-pub extern "C" fn capgauze_prepend_message(
+pub fn capgauze_prepend_message(
     source: &[u8],
     table: &[u64],
     count: usize,
@@ -297,8 +265,7 @@ pub extern "C" fn capgauze_prepend_message(
 }
 
 // A new record, with no key, behind all of an equal or lower tag.
-#[unsafe(no_mangle)]
-pub extern "C" fn capgauze_insert(
+pub fn capgauze_insert(
     source: &[u8],
     table: &mut [u64],
     count: usize,
@@ -322,16 +289,14 @@ pub extern "C" fn capgauze_insert(
 // ---- an index beside a stored message
 
 // The index of a message: the number of its tags, three words each.
-#[unsafe(no_mangle)]
-pub extern "C" fn capgauze_make_index(s: &[u8], index: &mut [u64]) -> Number
+pub fn capgauze_make_index(s: &[u8], index: &mut [u64]) -> Number
     ensures { record { told = as_number result; lent = index.new } ≡ index_told (make_index s.now index.old) }
 {
     c_words::indexed_words(capgauze::make_index(s, index))
 }
 
 // 1 if the first tags of an index are the index of a message, else 0.
-#[unsafe(no_mangle)]
-pub extern "C" fn capgauze_index_fits(s: &[u8], index: &[u64], tags: usize) -> u64
+pub fn capgauze_index_fits(s: &[u8], index: &[u64], tags: usize) -> u64
     ensures { result ≡ bit_of (index_fits s.now index.now tags) }
 {
     if capgauze::index_fits(s, index, tags) {
@@ -342,24 +307,21 @@ pub extern "C" fn capgauze_index_fits(s: &[u8], index: &[u64], tags: usize) -> u
 }
 
 // The only field of a tag, through an index.
-#[unsafe(no_mangle)]
-pub extern "C" fn capgauze_pick_indexed(s: &[u8], index: &[u64], tags: usize, tag: u32) -> PickWords
+pub fn capgauze_pick_indexed(s: &[u8], index: &[u64], tags: usize, tag: u32) -> PickWords
     ensures { as_picked result ≡ picked_told (pick_indexed s.now index.now tags tag) }
 {
     c_words::pick_words(capgauze::pick_indexed(s, index, tags, tag))
 }
 
 // An index as a line of characters.
-#[unsafe(no_mangle)]
-pub extern "C" fn capgauze_write_line(index: &[u64], tags: usize, line: &mut [u8]) -> Number
+pub fn capgauze_write_line(index: &[u64], tags: usize, line: &mut [u8]) -> Number
     ensures { record { told = as_number result; lent = line.new } ≡ stored_told (write_line 2 6 index.now tags line.old) }
 {
     c_words::put_words(capgauze::write_line(index, tags, line))
 }
 
 // A line as an index.
-#[unsafe(no_mangle)]
-pub extern "C" fn capgauze_read_line(line: &[u8], message_len: usize, index: &mut [u64]) -> Number
+pub fn capgauze_read_line(line: &[u8], message_len: usize, index: &mut [u64]) -> Number
     ensures { record { told = as_number result; lent = index.new } ≡ index_told (read_either message_len line.now index.old) }
 {
     c_words::indexed_words(capgauze::read_line(line, message_len, index))
@@ -368,16 +330,14 @@ pub extern "C" fn capgauze_read_line(line: &[u8], message_len: usize, index: &mu
 // ---- soundings
 
 // A sounding, with its levels in the table, five words a level.
-#[unsafe(no_mangle)]
-pub extern "C" fn capgauze_read_sounding(s: &[u8], levels: &mut [u64]) -> SoundingWords
+pub fn capgauze_read_sounding(s: &[u8], levels: &mut [u64]) -> SoundingWords
     ensures { record { told = as_sounding result; lent = levels.new } ≡ levels_told (read_sounding s.now levels.old) }
 {
     c_words::sounding_words(capgauze::read_sounding(s, levels))
 }
 
 // A sounding of the second edition, with its levels in the table, nine words a level, if no field of it is below a grade.
-#[unsafe(no_mangle)]
-pub extern "C" fn capgauze_read_graded(s: &[u8], levels: &mut [u64], least: u64) -> GradedWords
+pub fn capgauze_read_graded(s: &[u8], levels: &mut [u64], least: u64) -> GradedWords
     ensures { record { told = as_graded result; lent = levels.new }
         ≡ graded_as levels.old (grade_of least) (λ g. read_graded s.now levels.old g) }
 {
@@ -390,8 +350,7 @@ pub extern "C" fn capgauze_read_graded(s: &[u8], levels: &mut [u64], least: u64)
 // ---- packed runs
 
 // How many values of a type a slice is.
-#[unsafe(no_mangle)]
-pub extern "C" fn capgauze_run_count(s: &[u8], kind: u64) -> Number
+pub fn capgauze_run_count(s: &[u8], kind: u64) -> Number
     ensures { as_number result ≡ typed_as bad_number (typed_of kind) (λ w. run_count_told (run_count s.now w)) }
 {
     let Typed::Is(wire) = c_words::typed_of(kind) else {
@@ -401,8 +360,7 @@ pub extern "C" fn capgauze_run_count(s: &[u8], kind: u64) -> Number
 }
 
 // The value at a number.
-#[unsafe(no_mangle)]
-pub extern "C" fn capgauze_run_value(s: &[u8], kind: u64, number: usize) -> PickWords
+pub fn capgauze_run_value(s: &[u8], kind: u64, number: usize) -> PickWords
     ensures { as_picked result ≡ typed_as bad_pick (typed_of kind) (λ w. run_value_told (run_value s.now w number)) }
 {
     let Typed::Is(wire) = c_words::typed_of(kind) else {
@@ -412,8 +370,7 @@ pub extern "C" fn capgauze_run_value(s: &[u8], kind: u64, number: usize) -> Pick
 }
 
 // All values as records of a table.
-#[unsafe(no_mangle)]
-pub extern "C" fn capgauze_read_run(s: &[u8], kind: u64, table: &mut [u64]) -> Number
+pub fn capgauze_read_run(s: &[u8], kind: u64, table: &mut [u64]) -> Number
     ensures { record { told = as_number result; lent = table.new }
         ≡ typed_as (record { told = bad_number; lent = table.old }) (typed_of kind) (λ w. run_told (read_run s.now w table.old)) }
 {
@@ -424,8 +381,7 @@ pub extern "C" fn capgauze_read_run(s: &[u8], kind: u64, table: &mut [u64]) -> N
 }
 
 // The run of a table's records at the buffer's front.
-#[unsafe(no_mangle)]
-pub extern "C" fn capgauze_write_run(
+pub fn capgauze_write_run(
     source: &[u8],
     table: &[u64],
     count: usize,
@@ -445,32 +401,21 @@ pub extern "C" fn capgauze_write_run(
 // ---- corrections over an original
 
 // Where the value of a tag stands, in the message that supplies it.
-#[unsafe(no_mangle)]
-pub extern "C" fn capgauze_corrected_part(original: &[u8], correction: &[u8], tag: u32) -> Part
+pub fn capgauze_corrected_part(original: &[u8], correction: &[u8], tag: u32) -> Part
     ensures { as_part result ≡ place_of (supply_of original.now correction.now tag) }
 {
     c_words::supply_words(correct_supply::supply_of(original, correction, tag))
 }
 
 // Which message that is.
-#[unsafe(no_mangle)]
-pub extern "C" fn capgauze_corrected_by(
-    original: &[u8],
-    correction: &[u8],
-    tag: u32,
-) -> SupplierWords
+pub fn capgauze_corrected_by(original: &[u8], correction: &[u8], tag: u32) -> SupplierWords
     ensures { as_supplied result ≡ supplier_told (supplied_by original.now correction.now tag) }
 {
     c_words::supplier_words(capgauze::corrected_by(original, correction, tag))
 }
 
 // The original under a correction, as one message at the buffer's front.
-#[unsafe(no_mangle)]
-pub extern "C" fn capgauze_write_corrected(
-    original: &[u8],
-    correction: &[u8],
-    buf: &mut [u8],
-) -> Number
+pub fn capgauze_write_corrected(original: &[u8], correction: &[u8], buf: &mut [u8]) -> Number
     ensures { record { told = as_number result; lent = buf.new }
         ≡ stored_told (write_corrected original.now correction.now buf.old) }
 {
@@ -480,13 +425,7 @@ pub extern "C" fn capgauze_write_corrected(
 // ---- a working copy
 
 // A record taken out.
-#[unsafe(no_mangle)]
-pub extern "C" fn capgauze_remove_record(
-    room: &[u8],
-    table: &mut [u64],
-    count: usize,
-    index: usize,
-) -> Number
+pub fn capgauze_remove_record(room: &[u8], table: &mut [u64], count: usize, index: usize) -> Number
     ensures { record { told = as_number result; lent = table.new }
         ≡ insertion_told (remove_record room.now table.old count index) }
 {
@@ -494,8 +433,7 @@ pub extern "C" fn capgauze_remove_record(
 }
 
 // Other bytes for a payload.
-#[unsafe(no_mangle)]
-pub extern "C" fn capgauze_replace_payload(
+pub fn capgauze_replace_payload(
     room: &mut [u8],
     table: &mut [u64],
     count: usize,
@@ -509,8 +447,7 @@ pub extern "C" fn capgauze_replace_payload(
 }
 
 // A payload put in behind all of an equal or lower tag.
-#[unsafe(no_mangle)]
-pub extern "C" fn capgauze_insert_payload(
+pub fn capgauze_insert_payload(
     room: &mut [u8],
     table: &mut [u64],
     count: usize,

@@ -1,2 +1,4 @@
 pub mod Seeking
 pub mod Only
+pub mod Meaning
+pub mod SupplyLaws

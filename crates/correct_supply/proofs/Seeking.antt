@@ -8,9 +8,8 @@ use lib.Dec.{eqb}
 use lib.ListN.{length}
 use borrow.Author.Tests.{ne_eqb}
 use Rattle.wire.specs.Choose.{choose}
-use Rattle.wire.specs.Reading.{varint_at, key_at, value_at, tagged, field_at, Message, Fields, reads_from, read_message}
-use Rattle.wire.specs.Reading as reading
-use Rattle.wire.specs.ReadingLaws.{field-moves}
+use Rattle.wire.specs.Reading.{key_at, value_at, tagged, field_at, Message, reads_from, read_message}
+use Rattle.wire.proofs.ReadingLaws.{field-moves}
 use Rattle.wire.specs.StepLaws.{field-keyed, field-keyless}
 use Rattle.wire.specs.Theorem.{turn-field, turn-refused, turn_end}
 use Rattle.wire.specs.Marks.{Mark, marks_from, marks, marks-turn, marks-end}

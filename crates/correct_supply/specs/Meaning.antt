@@ -10,8 +10,10 @@ use Rattle.wire.specs.Written.{Content, Number, Payload, Four, Eight}
 use Rattle.wire.specs.Places.{shown}
 use Rattle.wire.specs.Reading.{varint_at, capped_at, value_at, field_at, Message, Fields, read_message}
 use Rattle.wire.specs.Reading as reading
-use Rattle.wire.specs.ReadingLaws.{within-got, number-got, payload-got, value-took, field_found_lem}
-use Rattle.wire.specs.Marks.{Mark, marks_from, marks, fields_of, marks-turn, marks-end, marks-fields}
+use Rattle.wire.specs.ReadingLaws.{within-got, number-got, payload-got}
+use Rattle.wire.proofs.ReadingLaws.{value-took, field_found_lem}
+use Rattle.wire.specs.Marks.{Mark, marks_from, marks, fields_of, marks-turn, marks-end}
+use Rattle.wire.proofs.Marks.{marks-fields}
 use Rattle.wire.specs.declared.WireType.{WireType}
 use Rattle.wire.specs.declared.WireType.TheVariants as wire_type
 use Rattle.wire.specs.declared.Value.{Value}
@@ -43,26 +45,6 @@ bare_bytes (Eight n) = fixed 8 n
 abbrev pub span_bytes : List ℕ → Span → List ℕ
 span_bytes s p = take p.length (drop p.start s)
 
-module _ (s : List ℕ) (b : Bytes s) where
-  between-bytes : (e q : ℕ) (w : WireType) (v : Value) (n : ℕ) → value_at s e q w ≡ value_found.Got v n → span_bytes s (between v q n) ≡ bare_bytes (shown s v)
-  between-bytes e q wire_type.Varint v n h =
-      let x = (number-got (capped_at s e q) v n h).2 in
-      rw x (rw x at (value-took s b e q wire_type.Varint v n h).0)
-  between-bytes e q wire_type.LengthDelimited v n h = rw (payload-got s e (varint_at s q) v n h).3
-  between-bytes e q wire_type.ThirtyTwoBit v n h =
-      let x = (within-got s e (q + 4) _ v n h).0 in
-      rw x (rw x at (value-took s b e q wire_type.ThirtyTwoBit v n h).0)
-  between-bytes e q wire_type.SixtyFourBit v n h =
-      let x = (within-got s e (q + 8) _ v n h).0 in
-      rw x (rw x at (value-took s b e q wire_type.SixtyFourBit v n h).0)
-
-  -- of a field that is read: the part is its value's own bytes
-  pub field-bytes : (e p last : ℕ) (f : Field) (q : ℕ) → field_at s e p last ≡ field_found.Got f q
-      → span_bytes s (bare_of s (record { key = p; field = f })) ≡ bare_bytes (shown s f.value)
-  field-bytes e p last f q h =
-      let x = field_found_lem s e p last f q h in
-      ap (span_bytes s) (sym (bare-field s e p last f q h)) ∙ between-bytes e x.middle x.wire f.value q x.value
-
 -- ---- how many fields of the tag, and the first one's bytes
 
 abbrev pub FirstOf : List ℕ → List Field → Span → Type 0
@@ -78,7 +60,7 @@ told_more : (s : List ℕ) (f : Field) (fs : List Field) (p : Span) (h : Held) �
 told_more s f fs p (held_as.Fields n g) x y = (omega (arith, y.0), x)
 told_more s f fs p (held_as.Refused r) x y = absurd y
 
-told-mark : (s : List ℕ) (t : ℕ) (m : Mark) (ms : List Mark) → (Bytes s → span_bytes s (bare_of s m) ≡ bare_bytes (shown s m.field.value))
+pub told-mark : (s : List ℕ) (t : ℕ) (m : Mark) (ms : List Mark) → (Bytes s → span_bytes s (bare_of s m) ≡ bare_bytes (shown s m.field.value))
     → Told s (of_tag t (fields_of ms)) (held_in s t ms) → Told s (of_tag t (fields_of (m ∷ ms))) (held_in s t (m ∷ ms))
 told-mark s t m ms x y = go (eqb m.field.tag t) refl
   where
@@ -86,20 +68,6 @@ told-mark s t m ms x y = go (eqb m.field.tag t) refl
     go true b =
         rw (held_same s t m ms (eqb-true m.field.tag t b), b) (told_more s m.field (of_tag t (fields_of ms)) (bare_of s m) (held_in s t ms) x y)
     go false b = rw (held-other s t m ms (eqb-false m.field.tag t b), b) y
-
-marks-told : (k : ℕ) (s : List ℕ) (e p last t : ℕ) → Told s (of_tag t (fields_of (marks_from k s e p last))) (held_in s t (marks_from k s e p last))
-unfolding held_in
-marks-told zero s e p last t = (refl, λ y. tt)
-marks-told (suc k) s e p last t = go (ltb p e) refl (field_at s e p last) refl (λ q u. marks-told k s e q u t)
-  where
-    go : (b : Bool) → ltb p e ≡ b → (o : FieldFound) → field_at s e p last ≡ o
-        → ((q u : ℕ) → Told s (of_tag t (fields_of (marks_from k s e q u))) (held_in s t (marks_from k s e q u)))
-        → Told s (of_tag t (fields_of (marks_from (suc k) s e p last))) (held_in s t (marks_from (suc k) s e p last))
-    go false b o x ih = rw (marks-end s e p last (suc k) (ltb-false p e b)) (refl, λ y. tt)
-    go true b (field_found.Refused r) x ih = rw (b, x) (refl, λ y. tt)
-    go true b (field_found.Got f q) x ih =
-        rw (marks-turn s e p last k f q (ltb-true p e b) x)
-        (told-mark s t _ (marks_from k s e q f.tag) (λ y. field-bytes s y e p last f q x) (ih q f.tag))
 
 -- for other crates: a message that is refused, and what is found in one that is accepted
 abbrev pub HeldRefused : List ℕ → ℕ → Refusal → Type 0
@@ -120,40 +88,8 @@ pub record Of (s : List ℕ) (t n : ℕ) (p : Span) : Type 0 where
   pub has : Has s t n
   pub first : Bytes s → FirstOf s (of_tag t has.fields) p
 
-no_fields : {A : Type 0} {r : Refusal} {n : ℕ} {p : Span} → held_as.Refused r ≡ held_as.Fields n p → A
+pub no_fields : {A : Type 0} {r : Refusal} {n : ℕ} {p : Span} → held_as.Refused r ≡ held_as.Fields n p → A
 no_fields e = let z : ◌≡◌ {A = ℕ} 0 1 = cc in absurd (omega arith)
-
-pub held_of : (s : List ℕ) (t n : ℕ) (p : Span) → HeldFields s t n p → Of s t n p
-unfolding marks
-held_of s t n p h = go (gated (length s) 0 (length s)) refl (read_message s 0 (length s)) refl
-  where
-    go : (g : Gated) → gated (length s) 0 (length s) ≡ g → (m : Message) → read_message s 0 (length s) ≡ m → Of s t n p
-    go (Shut r) g m x = no_fields (sym (held-shut s t r g) ∙ h)
-    go Open g (reading.Refused r q) x =
-        no_fields {r = r} (sym (held-open s t g ∙ ap (λ (y : Message). accepting y (held_in s t (marks s 0 (length s)))) x) ∙ h)
-    go Open g (Fields fs) x =
-        let e : held_in s t (marks s 0 (length s)) ≡ held_as.Fields n p =
-        sym (held-open s t g ∙ ap (λ (y : Message). accepting y (held_in s t (marks s 0 (length s)))) x) ∙ h
-        in
-        let w : Told s (of_tag t fs) (held_as.Fields n p) =
-        rw (e, marks-fields s 0 (length s) fs x) at (marks-told (length s - 0) s (length s) 0 0 t)
-        in
-        record { has = record { short = (gated-opens (length s) 0 (length s) g).0; fields = fs; read = x; count = w.0 }; first = w.1 }
-
-pub has-held : (s : List ℕ) (t n : ℕ) → Has s t n → (p : Span) × HeldFields s t n p
-unfolding marks
-has-held s t n w =
-    go (held_in s t (marks s 0 (length s))) refl
-    (rw (marks-fields s 0 (length s) w.fields w.read) at (marks-told (length s - 0) s (length s) 0 0 t))
-  where
-    is_held : held s t ≡ held_in s t (marks s 0 (length s))
-    is_held =
-        held-open s t (gated-open (length s) 0 (length s) w.short (omega arith) (omega arith))
-        ∙ ap (λ (m : Message). accepting m (held_in s t (marks s 0 (length s)))) w.read
-
-    go : (h : Held) → held_in s t (marks s 0 (length s)) ≡ h → Told s (of_tag t w.fields) h → (p : Span) × HeldFields s t n p
-    go (held_as.Fields m p) e x = (p, is_held ∙ e ∙ ap (λ (k : ℕ). held_as.Fields k p) (x.0 ∙ sym w.count))
-    go (held_as.Refused r) e x = absurd x
 
 -- ---- who supplies the tag
 
@@ -171,13 +107,3 @@ pub data Said (o c : List ℕ) (t : ℕ) (r : Supply) : Type 0 where
   both : Both o c t r → Said o c t r
   original : (x : Refusal) → HeldRefused o t x → r ≡ supply.Refused x → Said o c t r
   correction : (x : Refusal) (n : ℕ) (p : Span) → HeldFields o t n p → HeldRefused c t x → r ≡ supply.Refused x → Said o c t r
-
-pub said : (o c : List ℕ) (t : ℕ) → Said o c t (supply_of o c t)
-unfolding supply_of judged
-said o c t = go (held o t) refl (held c t) refl
-  where
-    go : (x : Held) → held o t ≡ x → (y : Held) → held c t ≡ y → Said o c t (supply_of o c t)
-    go (held_as.Refused r) x y z = original r x (rw x)
-    go (held_as.Fields n p) x (held_as.Refused r) z = correction r n p x z (rw (x, z))
-    go (held_as.Fields n p) x (held_as.Fields m q) z =
-        both (record { olds = n; old = p; news = m; new = q; original = held_of o t n p x; correction = held_of c t m q z; told = rw (x, z) })

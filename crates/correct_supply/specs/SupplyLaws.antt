@@ -6,7 +6,8 @@ use Rattle.std.specs.Borrow.{Bor}
 use Rattle.wire.specs.Choose.{choose}
 use Rattle.wire.specs.Reading.{varint_at, capped_at, key_at, value_at, field_at, Message, Fields, in_front, read_message}
 use Rattle.wire.specs.Reading as reading
-use Rattle.wire.specs.ReadingLaws.{renamed-got, key-took, within-got, number-got, payload-got, value-moves, field_found_lem}
+use Rattle.wire.specs.ReadingLaws.{renamed-got, key-took, within-got, number-got, payload-got}
+use Rattle.wire.proofs.ReadingLaws.{value-moves, field_found_lem}
 use Rattle.wire.specs.Marks.{Mark, marks_from, marks, marks-turn, marks-end}
 use Rattle.wire.specs.declared.Refusal.{Refusal}
 use Rattle.wire.specs.declared.Refusal.TheVariants.{Repeated}
@@ -103,7 +104,7 @@ bare-between s e q wire_type.SixtyFourBit v n h =
 abbrev pub Inside : ℕ → Span → Type 0
 Inside n p = p.start + p.length ≤ n
 
-between-inside : (s : List ℕ) (e q : ℕ) (w : WireType) (v : Value) (n : ℕ) → value_at s e q w ≡ value_found.Got v n → Inside (length s) (between v q n)
+pub between-inside : (s : List ℕ) (e q : ℕ) (w : WireType) (v : Value) (n : ℕ) → value_at s e q w ≡ value_found.Got v n → Inside (length s) (between v q n)
 between-inside s e q wire_type.Varint v n h =
     let m = value-moves s e q wire_type.Varint v n h in
     rw (number-got (capped_at s e q) v n h).2 (omega (arith, m.0, m.1))
@@ -125,12 +126,6 @@ bare-field s e p last f q h =
     bare-between s e x.middle x.wire f.value q x.value
     ∙ ap (λ (k : ℕ). bare_at s k f.value) (sym (ap (after p) x.key.read))
 
-pub field-inside : (s : List ℕ) (e p last : ℕ) (f : Field) (q : ℕ) → field_at s e p last ≡ field_found.Got f q
-    → Inside (length s) (bare_of s (record { key = p; field = f }))
-field-inside s e p last f q h =
-    let x = field_found_lem s e p last f q h in
-    subst (λ (r : Span). Inside (length s) r) (bare-field s e p last f q h) (between-inside s e x.middle x.wire f.value q x.value)
-
 abbrev pub HeldInside : ℕ → Held → Type 0
 HeldInside n (held_as.Fields c f) = Inside n f
 HeldInside n (held_as.Refused r) = Unit {0}
@@ -139,7 +134,7 @@ ahead-inside : (n : ℕ) (f : Span) (h : Held) → Inside n f → HeldInside n h
 ahead-inside n f (held_as.Fields c g) a b = a
 ahead-inside n f (held_as.Refused r) a b = tt
 
-more-inside : (n : ℕ) (s : List ℕ) (t : ℕ) (m : Mark) (ms : List Mark) → Inside n (bare_of s m) → HeldInside n (held_in s t ms)
+pub more-inside : (n : ℕ) (s : List ℕ) (t : ℕ) (m : Mark) (ms : List Mark) → Inside n (bare_of s m) → HeldInside n (held_in s t ms)
     → HeldInside n (held_in s t (m ∷ ms))
 more-inside n s t m ms a b = go (eqb m.field.tag t) refl
   where
@@ -147,69 +142,17 @@ more-inside n s t m ms a b = go (eqb m.field.tag t) refl
     go true x = rw (held_same s t m ms (eqb-true m.field.tag t x)) (ahead-inside n (bare_of s m) (held_in s t ms) a b)
     go false x = rw (held-other s t m ms (eqb-false m.field.tag t x)) b
 
-marks-inside : (k : ℕ) (s : List ℕ) (e p last t : ℕ) → HeldInside (length s) (held_in s t (marks_from k s e p last))
-unfolding held_in
-marks-inside zero s e p last t = omega arith
-marks-inside (suc k) s e p last t = go (ltb p e) refl (field_at s e p last) refl (λ q u. marks-inside k s e q u t)
-  where
-    go : (b : Bool) → ltb p e ≡ b → (o : FieldFound) → field_at s e p last ≡ o → ((q u : ℕ) → HeldInside (length s) (held_in s t (marks_from k s e q u)))
-        → HeldInside (length s) (held_in s t (marks_from (suc k) s e p last))
-    go false b o x ih = rw (marks-end s e p last (suc k) (ltb-false p e b)) (omega arith)
-    go true b (field_found.Refused r) x ih = rw (b, x) (omega arith)
-    go true b (field_found.Got f q) x ih =
-        rw (marks-turn s e p last k f q (ltb-true p e b) x)
-        (more-inside (length s) s t _ (marks_from k s e q f.tag) (field-inside s e p last f q x) (ih q f.tag))
-
-pub held-inside : (s : List ℕ) (t : ℕ) → HeldInside (length s) (held s t)
-unfolding held marks
-held-inside s t = go (gated (length s) 0 (length s)) (read_message s 0 (length s))
-  where
-    go : (g : Gated) (m : Message) → HeldInside (length s) (through g held_as.Refused (accepting m (held_in s t (marks s 0 (length s)))))
-    go Open (Fields fs) = marks-inside (length s - 0) s (length s) 0 0 t
-    go Open (reading.Refused r p) = tt
-    go (Shut r) m = tt
-
 -- ---- two messages
 
-chosen-many : (n : ℕ) (p : Span) (m : ℕ) (q : Span) → 1 < m → chosen n p m q ≡ supply.Refused Repeated
+pub chosen-many : (n : ℕ) (p : Span) (m : ℕ) (q : Span) → 1 < m → chosen n p m q ≡ supply.Refused Repeated
 chosen-many n p zero q h = absurd (omega arith)
 chosen-many n p (suc zero) q h = absurd (omega arith)
 chosen-many n p (suc (suc m)) q h = refl
 
-chosen-older : (n : ℕ) (p : Span) (m : ℕ) (q : Span) → m ≡ 0 → 1 < n → chosen n p m q ≡ supply.Refused Repeated
+pub chosen-older : (n : ℕ) (p : Span) (m : ℕ) (q : Span) → m ≡ 0 → 1 < n → chosen n p m q ≡ supply.Refused Repeated
 chosen-older zero p m q e h = absurd (omega arith)
 chosen-older (suc zero) p m q e h = absurd (omega arith)
 chosen-older (suc (suc n)) p m q e h = rw e
-
-module _ (o c : List ℕ) (t : ℕ) where
-  pub supply-shut : (r : Refusal) → held o t ≡ held_as.Refused r → supply_of o c t ≡ supply.Refused r
-  unfolding supply_of judged
-  supply-shut r h = rw h
-
-  module _ (n : ℕ) (p : Span) (h : held o t ≡ held_as.Fields n p) where
-    pub supply-refused : (r : Refusal) → held c t ≡ held_as.Refused r → supply_of o c t ≡ supply.Refused r
-    unfolding supply_of judged
-    supply-refused r g = rw (h, g)
-
-    module _ (m : ℕ) (q : Span) (g : held c t ≡ held_as.Fields m q) where
-      both : supply_of o c t ≡ chosen n p m q
-      unfolding supply_of judged
-      both = rw (h, g)
-
-      pub supply-new : m ≡ 1 → supply_of o c t ≡ supply.Correction q
-      supply-new e = both ∙ rw e
-
-      pub supply-many : 1 < m → supply_of o c t ≡ supply.Refused Repeated
-      supply-many e = both ∙ chosen-many n p m q e
-
-      pub supply-old : m ≡ 0 → n ≡ 1 → supply_of o c t ≡ supply.Original p
-      supply-old e f = both ∙ rw (e, f)
-
-      pub supply-older : m ≡ 0 → 1 < n → supply_of o c t ≡ supply.Refused Repeated
-      supply-older e f = both ∙ chosen-older n p m q e f
-
-      pub supply-none : m ≡ 0 → n ≡ 0 → supply_of o c t ≡ supply.Absent
-      supply-none e f = both ∙ rw (e, f)
 
 -- a part that is supplied lies inside its message
 abbrev pub SupplyInside : ℕ → ℕ → Supply → Type 0
@@ -217,32 +160,3 @@ SupplyInside n m (supply.Original p) = Inside n p
 SupplyInside n m (supply.Correction p) = Inside m p
 SupplyInside n m supply.Absent = Unit {0}
 SupplyInside n m (supply.Refused r) = Unit {0}
-
-pub supply-inside : (o c : List ℕ) (t : ℕ) → SupplyInside (length o) (length c) (supply_of o c t)
-unfolding supply_of judged
-supply-inside o c t = go (held o t) (held c t) (held-inside o t) (held-inside c t)
-  where
-    old : (n : ℕ) (p : Span) → Inside (length o) p → SupplyInside (length o) (length c) (alone supply.Original n p)
-    old zero p a = tt
-    old (suc zero) p a = a
-    old (suc (suc n)) p a = tt
-
-    new : (m : ℕ) (q : Span) → Inside (length c) q → SupplyInside (length o) (length c) (alone supply.Correction m q)
-    new zero q a = tt
-    new (suc zero) q a = a
-    new (suc (suc m)) q a = tt
-
-    either : (n : ℕ) (p : Span) (m : ℕ) (q : Span) → Inside (length o) p → Inside (length c) q → SupplyInside (length o) (length c) (chosen n p m q)
-    either n p zero q a b = old n p a
-    either n p (suc m) q a b = new (suc m) q b
-
-    go : (x y : Held) → HeldInside (length o) x → HeldInside (length c) y → SupplyInside (length o) (length c) (judged x y)
-    go (held_as.Fields n p) (held_as.Fields m q) a b = either n p m q a b
-    go (held_as.Fields n p) (held_as.Refused r) a b = tt
-    go (held_as.Refused r) y a b = tt
-
-pub original-inside : (o c : List ℕ) (t : ℕ) (p : Span) → supply_of o c t ≡ supply.Original p → Inside (length o) p
-original-inside o c t p h = rw h at (supply-inside o c t)
-
-pub correction-inside : (o c : List ℕ) (t : ℕ) (p : Span) → supply_of o c t ≡ supply.Correction p → Inside (length c) p
-correction-inside o c t p h = rw h at (supply-inside o c t)

@@ -5,7 +5,6 @@ use Rattle.wire.specs.Choose.{choose}
 use Rattle.wire.specs.Reading.{varint_at, Message, Fields, read_message}
 use Rattle.wire.specs.Reading as reading
 use Rattle.wire.specs.Marks.{Mark, marks}
-use Rattle.wire.specs.declared.Refusal.{Refusal}
 use Rattle.wire.specs.declared.Refusal.TheVariants.{Repeated}
 use Rattle.wire.specs.declared.Value.{Value}
 use Rattle.wire.specs.declared.Value.TheVariants as val

@@ -1,4 +1,6 @@
 // Which of two messages supplies a tag, the original or its correction, and the value's bytes there as they stand on the wire.
+#![tactic(auto)]
+
 ghost use Rattle.std.specs.Prelude.{◌≡◌, ◌≤◌, eqb};
 ghost use Rattle.wire.specs.Choose.{choose};
 ghost use Rattle.entry_message.specs.Messages.{part_of};
@@ -9,14 +11,14 @@ use message_payload::Span;
 use wire::{KeyFound, Refusal, Value, ValueFound};
 
 // What a message has of a tag: how many fields, and the first one's value; or why it is not read.
-#[derive(Drop)]
+#[derive(Clone, Copy)]
 enum Held {
     Fields(usize, Span),
     Refused(Refusal),
 }
 
 // Which message has the value of a tag, and where; or that none has; or why none is answered.
-#[derive(Drop)]
+#[derive(Clone, Copy)]
 pub enum Supply {
     Original(Span),
     Correction(Span),

@@ -1,4 +1,4 @@
--- Fields put behind another tag, and the whole result_bytes: what the calls say, joined.
+-- Fields put behind another tag, and the whole result: what the calls say, joined.
 use Prim.Native.Nat.{ℕ, ◌+◌, ◌-◌, ◌*◌, ◌≤◌, ◌<◌}
 use mathlib.Core.Path.{◌≡◌, refl, ap, ◌∙◌, sym}
 use mathlib.Core.Bool.{Bool, true, false}
@@ -54,12 +54,12 @@ ample n m h = go (leb n message_limit) refl
     go true t = (leb-true n message_limit t, leb-true n m (rw t at h))
     go false t = let z : false ≡ true = rw t at h in absurd (let y : ◌≡◌ {A = ℕ} 0 1 = cc in omega arith)
 
--- both messages are accepted: the result_bytes is no longer than the two
+-- both messages are accepted: the result is no longer than the two
 pub whole-short : {o c : List ℕ} → Entered o → Entered c → Bytes o → Bytes c → length (result_bytes o c) ≤ length o + length c
 unfolding left
 whole-short {o} {c} w v x y = result-short (taken-means o (items_from o 0 0) x w.items) (taken-means c (items_from c 0 0) y v.items)
 
--- both messages are accepted, and n is the length of the result_bytes
+-- both messages are accepted, and n is the length of the result
 module _ {o c : List ℕ} (w : Entered o) (v : Entered c) (b : List ℕ) {n : ℕ} (e : n ≡ length (result_bytes o c)) where
   pub whole_long : message_limit < n → record { answer = put.Refused TooLong; buf = b } ≡ write_corrected o c b
   unfolding left

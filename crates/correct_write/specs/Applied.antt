@@ -1,4 +1,4 @@
--- What an answer of so many bytes says: the result_bytes is a message whose items are the original's under the correction's, and the correction applied to it
+-- What an answer of so many bytes says: the result is a message whose items are the original's under the correction's, and the correction applied to it
 -- gives the same bytes.
 use Rattle.std.specs.Prelude.{ℕ, ◌+◌, ◌-◌, ◌≤◌, ◌≡◌, refl, Bool, true, false, List, [], ◌++◌, leb, length, drop}
 use Rattle.std.proofs.Common.{ap, ◌∙◌, sym, arith, leb-true, leb-false, take_all}
@@ -8,7 +8,7 @@ use Rattle.wire.specs.Written.{Item, written, Good}
 use Rattle.wire.specs.Places.{part, items}
 use Rattle.wire.specs.Reading.{Message, Fields, read_message}
 use Rattle.wire.specs.Reading as reading
-use Rattle.wire.specs.Theorem.{accepted, complete}
+use Rattle.wire.proofs.Theorem.{accepted, complete}
 use Rattle.wire.specs.declared.Refusal.{Refusal}
 use Rattle.entry_answer.specs.Gate.{gated, through-open, through-shut, gated-open, gated-opens}
 use Rattle.entry_answer.specs.Stores.{Stored}
@@ -57,7 +57,7 @@ means-taken s is w =
     through-open Refused (taken_of s (read_message s 0 (length s))) (gated-open (length s) 0 (length s) w.short (omega arith) (omega arith))
     ∙ ap (taken_of s) x.1 ∙ ap Items x.2
 
--- ---- the result_bytes
+-- ---- the result
 
 module _ {o c : List ℕ} {os cs : List Item} (w : Means o os) (v : Means c cs) (l : length (written (corrected cs os)) ≤ message_limit) where
   pub result-means : Means (written (corrected cs os)) (corrected cs os)

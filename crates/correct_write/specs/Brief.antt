@@ -1,6 +1,6 @@
 -- A payload's field whose key and length are one byte each, as most fields of a sounding are.
-use Rattle.std.specs.Prelude.{ℕ, ◌+◌, ◌/◌, ◌%◌, ◌^◌, ◌≤◌, ◌<◌, ◌≡◌, refl, Bool, true, false, List, ltb, length, get_or}
-use Rattle.std.proofs.Common.{ap, ◌∙◌, sym, arith, lt-ltb, le-ltb, ltb-true, ltb-false}
+use Rattle.std.specs.Prelude.{ℕ, ◌+◌, ◌/◌, ◌%◌, ◌^◌, ◌<◌, ◌≡◌, refl, Bool, true, false, List, ltb, length, get_or}
+use Rattle.std.proofs.Common.{ap, ◌∙◌, sym, arith, lt-ltb, ltb-true}
 use Rattle.wire.specs.Reading.{varint_at, renamed, key_of, key_at, value_at}
 use Rattle.wire.specs.ReadingLaws.{payload-got}
 use Rattle.wire.specs.declared.Refusal.TheVariants.{TagOverflowed}

@@ -1,6 +1,6 @@
--- A correction over an original: the items of the result_bytes, its bytes, and what writing it answers and leaves (rules G1 and G5).
-use Rattle.std.specs.Prelude.{ℕ, ◌≤◌, ◌<◌, ◌≡◌, refl, List, [], ◌∷◌, ◌++◌, ltb, leb, length, drop}
-use Rattle.std.proofs.Common.{ap, ◌∙◌, le-leb}
+-- A correction over an original: the items of the result, its bytes, and what writing it answers and leaves (rules G1 and G5).
+use Rattle.std.specs.Prelude.{ℕ, ◌≤◌, ◌<◌, ◌≡◌, List, [], ◌∷◌, ◌++◌, ltb, leb, length, drop}
+use Rattle.std.proofs.Common.{◌∙◌, le-leb}
 use Rattle.std.proofs.lemmas.Bool.{lt-leb}
 use Rattle.wire.specs.Choose.{choose}
 use Rattle.wire.specs.Limits.{message_limit}
@@ -14,7 +14,7 @@ use Rattle.entry_answer.specs.Gate.{gated, through}
 use Rattle.entry_answer.specs.Stores.{Stored, at_front}
 use Rattle.entry_answer.specs.declared.Put.TheVariants as put
 
--- ---- the items of the result_bytes (rule G1)
+-- ---- the items of the result (rule G1)
 
 -- those of lower tags, and those of higher
 abbrev pub below : ℕ → List Item → List Item
@@ -49,7 +49,7 @@ pub data Planned : Type 0 where
   Gives : List ℕ → Planned
   Refuses : Refusal → Planned
 
--- 4 for the result_bytes
+-- 4 for the result
 abbrev pub limited : List ℕ → Planned
 limited bs = choose (leb (length bs) message_limit) (Gives bs) (Refuses TooLong)
 
@@ -64,7 +64,7 @@ abbrev pub stored : List ℕ → Planned → Stored
 stored b (Gives bs) = at_front b bs
 stored b (Refuses r) = record { answer = put.Refused r; buf = b }
 
--- Rule G5: the result_bytes at the buffer's front, every other byte as it was
+-- Rule G5: the result at the buffer's front, every other byte as it was
 unfoldable pub write_corrected : List ℕ → List ℕ → List ℕ → Stored
 write_corrected o c b = stored b (planned (taken o) (taken c))
 

@@ -1,16 +1,17 @@
 -- Fields that stand behind one another, moved behind another tag: the first one's key is new, all else is as it stands.
-use Rattle.std.specs.Prelude.{ℕ, zero, suc, ◌+◌, ◌-◌, ◌*◌, ◌%◌, ◌≤◌, ◌<◌, ◌≡◌, refl, Bool, true, false, List, [], ◌∷◌, ◌++◌, ltb, length, take, drop}
+use Rattle.std.specs.Prelude.{ℕ, ◌+◌, ◌-◌, ◌*◌, ◌%◌, ◌≤◌, ◌<◌, ◌≡◌, refl, Bool, true, false, List, [], ◌∷◌, ◌++◌, ltb, length, drop}
 use Rattle.std.proofs.Common.{ap, ◌∙◌, sym, append_assoc, append-nil, arith, lt-ltb, le-ltb, ltb-true, ltb-false, length-append, length-drop, length-take-le}
 use Rattle.std.proofs.Math.Seq.{drop-append_seam}
 use Rattle.wire.specs.Choose.{choose}
 use Rattle.wire.specs.Numbers.{kind_of}
 use Rattle.wire.specs.Varint.{encode}
-use Rattle.wire.specs.VarintLaws.{Bytes, length-le, length-pos}
+use Rattle.wire.specs.VarintLaws.{Bytes, length-le}
 use Rattle.wire.specs.Written.{Item, content_kind, written_content, written_item, written_from, GoodFrom}
 use Rattle.wire.specs.Places.{part, shown, join}
-use Rattle.wire.specs.Types.{key-length}
+use Rattle.wire.proofs.Types.{key-length}
 use Rattle.wire.specs.Reading.{key_at, value_at}
-use Rattle.wire.specs.ReadingLaws.{key-took, kind-wire, varint-moves, varint-took, value-took, value-moves, field-took, field-moves, item-pos}
+use Rattle.wire.specs.ReadingLaws.{key-took, kind-wire}
+use Rattle.wire.proofs.ReadingLaws.{varint-moves, varint-took, value-took, field-took, field-moves, item-pos}
 use Rattle.wire.specs.declared.Refusal.{Refusal}
 use Rattle.wire.specs.declared.Value.{Value}
 use Rattle.wire.specs.declared.Key.{Key}
@@ -18,7 +19,7 @@ use Rattle.wire.specs.declared.KeyFound.{KeyFound}
 use Rattle.wire.specs.declared.KeyFound.TheVariants as key_found
 use Rattle.wire.specs.declared.ValueFound.TheVariants as value_found
 use Rattle.correct_write.specs.TagByTag.{Under, Over, ordered-over, good-ordered, over-wider, under-both}
-use Rattle.correct_write.specs.Rests.{items_from, Rest, items-end, rest-inside, rest-bytes, rest-keyless, rest-valueless, rest_read, rest-next, rest-first}
+use Rattle.correct_write.specs.Rests.{items_from, Rest, items-end, rest-inside, rest-bytes, rest-keyless, rest_read, rest-next, rest-first}
 use Rattle.correct_write.specs.Rests.{rest-value}
 
 -- ---- the bytes

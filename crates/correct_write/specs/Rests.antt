@@ -1,15 +1,17 @@
 -- The rest of a message that is accepted, from a place on: its items, and what is read there.
-use Rattle.std.specs.Prelude.{ℕ, zero, suc, ◌+◌, ◌-◌, ◌≤◌, ◌<◌, ◌≡◌, refl, Bool, true, false, List, [], ◌∷◌, ltb, length}
+use Rattle.std.specs.Prelude.{ℕ, zero, suc, ◌-◌, ◌≤◌, ◌<◌, ◌≡◌, refl, Bool, true, false, List, [], ◌∷◌, ltb, length}
 use Rattle.std.proofs.Math.Path.{ap}
 use Rattle.std.proofs.Common.{◌∙◌, sym, arith, ltb-true, ltb-false}
 use Rattle.wire.specs.VarintLaws.{Bytes}
 use Rattle.wire.specs.Written.{Item, written_from, GoodFrom}
 use Rattle.wire.specs.Places.{part, shown, item_of, items}
-use Rattle.wire.specs.Reading.{key_at, value_at, tagged, field_at, Message, Fields, reads_from, read_message}
-use Rattle.wire.specs.ReadingLaws.{field-moves}
+use Rattle.wire.specs.Reading.{key_at, value_at, tagged, field_at, Fields, reads_from, read_message}
+use Rattle.wire.proofs.ReadingLaws.{field-moves}
 use Rattle.wire.specs.StepLaws.{field-keyed, field-keyless}
-use Rattle.wire.specs.Theorem.{turn-field, turn-refused, turn-past, refused-fields, in-front-fields, message-took}
-use Rattle.wire.specs.Marks.{Mark, marks_from, fields_of, marks-turn, marks-end, marks-read}
+use Rattle.wire.specs.Theorem.{turn-field, turn-refused, turn-past, refused-fields, in-front-fields}
+use Rattle.wire.proofs.Theorem.{message-took}
+use Rattle.wire.specs.Marks.{Mark, marks_from, fields_of, marks-turn, marks-end}
+use Rattle.wire.proofs.Marks.{marks-read}
 use Rattle.message.proofs.Walking.{positive}
 use Rattle.wire.specs.declared.Refusal.{Refusal}
 use Rattle.wire.specs.declared.Refusal.TheVariants.{Truncated}

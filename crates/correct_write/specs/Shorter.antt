@@ -1,4 +1,4 @@
--- The result_bytes is no longer than the two messages together: every tag of both stands in it, so that differences of tags only shrink.
+-- The result is no longer than the two messages together: every tag of both stands in it, so that differences of tags only shrink.
 use Rattle.std.specs.Prelude.{ℕ, zero, suc, ◌+◌, ◌-◌, ◌*◌, ◌/◌, ◌≤◌, ◌≡◌, refl, Bool, true, false, List, [], ◌∷◌, ltb, length}
 use Rattle.std.proofs.Common.{ap, subst, arith, le-ltb, ltb-true, ltb-false, length-append}
 use Rattle.wire.specs.Varint.{enc, encode}

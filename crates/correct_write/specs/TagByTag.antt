@@ -1,6 +1,6 @@
--- The result_bytes tag by tag: the correction's items where it has the tag, the original's elsewhere; it is the only such list, and a correction applied again
+-- The result tag by tag: the correction's items where it has the tag, the original's elsewhere; it is the only such list, and a correction applied again
 -- changes nothing (rule G1).
-use Rattle.std.specs.Prelude.{ℕ, zero, suc, ◌+◌, ◌-◌, ◌^◌, ◌≤◌, ◌<◌, ◌≡◌, refl, Bool, true, false, List, [], ◌∷◌, ◌++◌, ltb, eqb, length}
+use Rattle.std.specs.Prelude.{ℕ, suc, ◌^◌, ◌≤◌, ◌<◌, ◌≡◌, refl, Bool, true, false, List, [], ◌∷◌, ◌++◌, ltb, eqb, length}
 use Rattle.std.proofs.Common.{ap, ◌∙◌, sym, append-nil, arith, lt-ltb, le-ltb, ltb-true, ltb-false, eq-eqb, ne_eqb, eqb-true}
 use Rattle.std.proofs.lemmas.Bool.{eqb-false}
 use Rattle.wire.specs.Choose.{choose}
@@ -177,7 +177,7 @@ corrected-tags last t (c ∷ cs) os h =
         of-both t (below c.tag os) (c ∷ corrected cs (above c.tag os))
         ∙ rw (below-higher t c.tag (omega (arith, l)) os, b, ih, above-higher t c.tag l os)
 
--- ---- the result_bytes is a good list
+-- ---- the result is a good list
 
 good-lower : (last m : ℕ) (is : List Item) → last ≤ m → GoodFrom m is → GoodFrom last is
 good-lower last m [] h g = tt

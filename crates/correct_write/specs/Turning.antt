@@ -1,7 +1,7 @@
 -- One tag of a correction over the rest of an original: which fields are moved, and what is left to be written.
-use Rattle.std.specs.Prelude.{ℕ, zero, suc, ◌+◌, ◌-◌, ◌*◌, ◌≤◌, ◌<◌, ◌≡◌, Bool, true, false, ltb, length}
+use Rattle.std.specs.Prelude.{ℕ, suc, ◌+◌, ◌*◌, ◌≤◌, ◌<◌, ◌≡◌, Bool, true, false, ltb, length}
 use Rattle.std.proofs.Math.Path.{refl, ap, sym}
-use Rattle.std.proofs.Common.{◌∙◌, arith, add-one, lt-ltb, le-ltb, ltb-true, ltb-false, length-append}
+use Rattle.std.proofs.Common.{◌∙◌, arith, add-one, ltb-true, ltb-false, length-append}
 use mathlib.Core.List.{List, [], ◌∷◌, ◌++◌, append_assoc, append-nil}
 use Rattle.wire.specs.Choose.{choose}
 use Rattle.wire.specs.Limits.{message_limit}
@@ -12,14 +12,14 @@ use Rattle.correct_write.specs.declared.Turn.{Turn}
 use Rattle.correct_write.specs.Corrected.{corrected}
 use Rattle.correct_write.specs.TagByTag.{Under, Over, ordered-over, good-ordered, over-wider, over-parts, tag-turn}
 use Rattle.correct_write.specs.Rests.{items_from, Rest, items-end, rest-inside, rest-bytes, Heads}
-use Rattle.correct_write.specs.Moving.{moved, Run, moved-few, last_tag, written_both, Stretch, stretch-none, stretch-some, stretch-run, stretch-moved}
+use Rattle.correct_write.specs.Moving.{moved, Run, moved-few, last_tag, written_both, Stretch, stretch-some, stretch-run, stretch-moved}
 use Rattle.correct_write.specs.Moving.{stretch-last, stretch-all, Passing, passing-stretch}
 
 -- what is still to be written: the original from place p on, under the correction from place q on, behind a tag
 unfoldable pub left : List ℕ → ℕ → ℕ → List ℕ → ℕ → ℕ → List ℕ
 left o p last c q tag = written_from tag (corrected (items_from c q tag) (items_from o p last))
 
--- the whole result_bytes
+-- the whole result
 abbrev pub result_bytes : List ℕ → List ℕ → List ℕ
 result_bytes o c = left o 0 0 c 0 0
 
@@ -72,7 +72,7 @@ module _ (o : List ℕ) (p last : ℕ) (c : List ℕ) (q prior : ℕ) (b : Bytes
       let ws : items_from c q prior ≡ g ∷ (hs ++ items_from c u v) = group.whole ∙ ap (λ (z : List Item). z ++ items_from c u v) e in
       let vs : items_from o p last ≡ xs ++ (ys ++ items_from o j l) = low.whole ∙ ap (λ (z : List Item). xs ++ z) high.whole in
       let a : Over t (g ∷ hs) = (over-parts t (g ∷ hs) (items_from c u v) (rw ws at (heads-over d group.start h))).0 in
-      let f : Under (suc t) (g ∷ hs) = rw (e, one) at group.under in
+      let f : Under (suc t) (g ∷ hs) = rw (one, e) at group.under in
       let m : Over t (ys ++ items_from o j l) = rw high.whole at lows in
       let n : Under (suc t) ys = rw one at high.under in
       let r : Over (suc t) (items_from o j l) = rw one at highs in

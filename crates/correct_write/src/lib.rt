@@ -1,5 +1,7 @@
 // A correction over an original, written as one message: the correction's fields, and the original's of all other tags. Values, and the keys that stand
 // behind a key of their own message, are copied as they stand; only where the two meet is a key written anew.
+#![tactic(auto)]
+
 ghost use Rattle.std.specs.Prelude.{◌≡◌, ◌+◌, ◌/◌, ◌≤◌, ◌<◌, false, ltb, leb, length};
 ghost use Rattle.wire.specs.Choose.{choose};
 ghost use Rattle.wire.specs.Limits.{message_limit};
@@ -16,7 +18,7 @@ use entry_answer::{Gated, Put, Several};
 use wire::{KeyFound, Refusal, ValueFound};
 
 // Where fields that were passed end, and the tag of the last one.
-#[derive(Drop)]
+#[derive(Clone, Copy)]
 struct Passed {
     next: usize,
     last: u32,
@@ -24,7 +26,7 @@ struct Passed {
 
 // One tag of the correction: where the original's fields of lower tags end, and the tag behind which the correction's stand then; where these end, and
 // their tag; where the original's of the tag end, and the tag of the last one passed there.
-#[derive(Drop)]
+#[derive(Clone, Copy)]
 struct Turn {
     low: usize,
     out: u32,
@@ -79,9 +81,7 @@ fn rise_of(key: u8) -> u32
 // The fields from a place on whose tags are below a limit.
 fn pass(s: &[u8], at: usize, last: u32, limit: u64) -> Passed
     requires { Rest s.now at last }
-    ensures {
-        Passing s.now at last limit result.next result.last × Over limit (items_from s.now result.next result.last)
-        }
+    ensures { Passing s.now at last limit result.next result.last × Over limit (items_from s.now result.next result.last) }
 {
     let mut p = at;
     let mut tag = last;
@@ -231,7 +231,7 @@ fn measure(original: &[u8], correction: &[u8]) -> usize
 
 // The result at the buffer's front, which has room for it.
 fn put_all(original: &[u8], correction: &[u8], buf: &mut [u8]) -> usize
-    requires { Both original.now correction.now × (length (result original.now correction.now) ≤ length buf.old) }
+    requires { Both original.now correction.now × (length (result_bytes original.now correction.now) ≤ length buf.old) }
     ensures { Spans buf.old 0 result (result_bytes original.now correction.now) buf.new }
 {
     let mut p: usize = 0;
@@ -264,9 +264,7 @@ fn is_ample(n: usize, room: usize) -> bool
 // The original under a correction, as one message at the buffer's front. Both are read whole first, the original before the correction; a refusal leaves
 // the buffer as it was.
 pub fn write_corrected(original: &[u8], correction: &[u8], buf: &mut [u8]) -> Put
-    ensures {
-        record { answer = result; buf = buf.new } ≡ write_corrected original.now correction.now buf.old
-        }
+    ensures { record { answer = result; buf = buf.new } ≡ write_corrected original.now correction.now buf.old }
 {
     if let Gated::Shut(r) = accept(original) {
         return Put::Refused(r);

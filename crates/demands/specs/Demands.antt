@@ -16,10 +16,13 @@ pub use Rattle.demands_graded.specs.Grades.{Exactly, taken-exactly, least-of-all
 pub use Rattle.demands_graded.specs.GradedAllOnes.{graded-all-ones-alone, graded-all-ones}
 -- A refusal leaves everything as it was: the words and bytes that were lent hold what they held. And what is accepted changes nothing outside its part.
 pub use Rattle.demands_order.specs.Refusals.{Framed, encode-varint-frame, prepend-varint-frame, encode-key-frame, prepend-key-frame}
-pub use Rattle.demands_order.specs.Refusals.{read-message-frame, read-payload-frame, encode-message-frame, prepend-message-frame, insert-frame}
-pub use Rattle.demands_order.specs.Refusals.{read-sounding-frame, copy-message-frame}
+pub use Rattle.demands_order.specs.Refusals.{encode-message-frame, prepend-message-frame, insert-frame}
+pub use Rattle.demands_order.proofs.Refusals.{read-message-frame, read-payload-frame}
+pub use Rattle.demands_order.specs.Refusals.{read-sounding-frame}
+pub use Rattle.demands_order.proofs.Refusals.{copy-message-frame}
 pub use Rattle.demands_order.specs.Refusals.{c-encode-varint-frame, c-prepend-varint-frame, c-encode-key-frame, c-prepend-key-frame}
-pub use Rattle.demands_order.specs.Refusals.{c-read-message-frame, c-read-payload-frame, c-encode-message-frame, c-prepend-message-frame}
+pub use Rattle.demands_order.specs.Refusals.{c-encode-message-frame, c-prepend-message-frame}
+pub use Rattle.demands_order.proofs.Refusals.{c-read-message-frame, c-read-payload-frame}
 pub use Rattle.demands_order.specs.Refusals.{c-insert-frame, c-read-sounding-frame}
 pub use Rattle.demands_index.specs.IndexVerdict.{make-index-frame, read-line-frame, write-line-frame, c-make-index-frame, c-read-line-frame}
 pub use Rattle.demands_index.specs.IndexVerdict.{c-write-line-frame}
@@ -32,16 +35,20 @@ pub use Rattle.demands_graded.specs.GradedVerdict.{read-graded-frame, c-read-gra
 pub use Rattle.demands_order.specs.Order.{Numbered, Ordered}
 pub use Rattle.demands_order.specs.Verdicts.{decode-varint-number, decode-varint-capped-number, decode-key-number, decode-value-number}
 pub use Rattle.demands_order.specs.Verdicts.{skip-field-number, step-at-number, more-at-number, has-more-number, take-step-number}
-pub use Rattle.demands_order.specs.Verdicts.{step-through-number, count-fields-number, read-message-number, read-payload-number, pick-at-number}
-pub use Rattle.demands_order.specs.Verdicts.{pick-number, pick-early-number, copy-message-number, encode-varint-number, prepend-varint-number}
-pub use Rattle.demands_order.specs.Verdicts.{encode-key-number, prepend-key-number, key-len-number, encode-message-number}
-pub use Rattle.demands_order.specs.Verdicts.{prepend-message-number, insert-number}
+pub use Rattle.demands_order.specs.Verdicts.{step-through-number, count-fields-number, pick-at-number}
+pub use Rattle.demands_order.proofs.Verdicts.{read-message-number, read-payload-number}
+pub use Rattle.demands_order.specs.Verdicts.{pick-number, pick-early-number, encode-varint-number, prepend-varint-number}
+pub use Rattle.demands_order.proofs.Verdicts.{copy-message-number}
+pub use Rattle.demands_order.specs.Verdicts.{encode-key-number, prepend-key-number, key-len-number}
+pub use Rattle.demands_order.proofs.Verdicts.{encode-message-number}
+pub use Rattle.demands_order.proofs.Verdicts.{prepend-message-number, insert-number}
 pub use Rattle.demands_sounding.specs.VerdictsC.{c-decode-varint-number, c-decode-varint-capped-number, c-encode-varint-number, c-prepend-varint-number}
 pub use Rattle.demands_sounding.specs.VerdictsC.{c-decode-key-number, c-encode-key-number, c-prepend-key-number, c-key-len-number, c-decode-value-number}
 pub use Rattle.demands_sounding.specs.VerdictsC.{c-skip-field-number, c-step-at-number, c-read-message-number, c-read-payload-number, c-pick-number}
 pub use Rattle.demands_sounding.specs.VerdictsC.{c-pick-at-number, c-pick-early-number, c-encode-message-number, c-prepend-message-number}
-pub use Rattle.demands_sounding.specs.VerdictsC.{c-insert-number, c-read-sounding-number}
-pub use Rattle.demands_sounding.specs.SoundingVerdict.{read-sounding-number}
+pub use Rattle.demands_sounding.specs.VerdictsC.{c-insert-number}
+pub use Rattle.demands_sounding.proofs.VerdictsC.{c-read-sounding-number}
+pub use Rattle.demands_sounding.proofs.SoundingVerdict.{read-sounding-number}
 pub use Rattle.demands_graded.specs.GradedVerdict.{read-graded-number, c-read-graded-number}
 pub use Rattle.demands_index.specs.IndexVerdict.{make-index-number, pick-indexed-number, write-line-number, read-line-number}
 pub use Rattle.demands_correct.specs.CorrectingVerdict.{corrected-by-number, write-corrected-number, c-corrected-by-number, c-write-corrected-number}
@@ -49,21 +56,24 @@ pub use Rattle.demands_index.specs.IndexVerdict.{c-make-index-number, c-pick-ind
 -- ---- THE SECOND DEMAND: values, places and names are those of the rules
 
 -- Reading and writing are held to the definitions by the contracts themselves. The cases of FORMAT.md that are marked P, over the programs:
-pub use Rattle.demands_message.specs.Cases.{told-cases}
+pub use Rattle.demands_message.proofs.Cases.{told-cases}
 -- for every source, table, count and buffer, what is written is the list that the records stand for
 pub use Rattle.demands_message.specs.Writing.{encode-writes, prepend-writes}
 -- what is measured is what is put; the signed mapping and back; the table of limits
 pub use Rattle.demands_message.specs.Lengths.{encode-varint-measured, prepend-varint-measured, encode-key-measured, prepend-key-measured, signed_back}
 pub use Rattle.demands_message.specs.Lengths.{unsigned_back, table-limits}
 -- a buffer that is too short is told the length that is needed: it is enough for either writer, and nothing less is; both tell the same; no buffer measures
-pub use Rattle.demands_message.specs.Needed.{Encodes, Prepends, Both, Enough, Sizes, needed-is-enough, needed-both, no-buffer-measures, only-no-room-tells}
+pub use Rattle.demands_message.specs.Needed.{Encodes, Prepends, Both, Enough, Sizes}
+pub use Rattle.demands_message.proofs.Needed.{needed-is-enough, needed-both, no-buffer-measures, only-no-room-tells}
 -- an insertion puts the new field behind all of an equal or lower tag, and a good table stays good
 pub use Rattle.demands_message.specs.Inserting.{Inserting, fields, good-again}
 -- the key words of an accepted message are the places of its keys, and from one to the next stands the whole field; a record put in or read from a run
 -- has none; good tables that differ in nothing else are written alike; a key outside the source is BadRecord, and has no payload
-pub use Rattle.demands_key.specs.Keys.{FieldOf, Keys, key-words, Twins, encoded-alike, prepended-alike, run-alike}
-pub use Rattle.demands_key.specs.Keys.{inserted-key, inserted-before, inserted-behind, run-keys, BadKey, bad-encoded, bad-prepended, bad-inserted}
-pub use Rattle.demands_key.specs.Keys.{bad-payload}
+pub use Rattle.demands_key.specs.Keys.{FieldOf, Keys, Twins}
+pub use Rattle.demands_key.proofs.Keys.{key-words, encoded-alike, prepended-alike, run-alike}
+pub use Rattle.demands_key.specs.Keys.{inserted-key, inserted-before, inserted-behind, run-keys, BadKey}
+pub use Rattle.demands_key.proofs.Keys.{bad-encoded, bad-prepended, bad-inserted}
+pub use Rattle.demands_key.proofs.Keys.{bad-payload}
 -- a lookup that stops early answers as the full one does wherever that does not refuse
 pub use Rattle.demands_message.specs.Early.{Promise, every-early}
 -- a lookup through the index that was made of a message is the full pick; what that index means; which index fits a message
@@ -98,9 +108,10 @@ pub use Rattle.edit_pack.specs.PackTable.{Packs, Neat, neat}
 
 -- A message read whole, with a table of at least half as many records as it has bytes, is refused exactly if no list of fields in non-falling tag order is
 -- written as those bytes. Else the list handed out is the only such list ..
-pub use Rattle.demands_message.specs.Reading.{Whole, Meant, Third, third}
+pub use Rattle.demands_message.specs.Reading.{Whole, Meant, Third}
+pub use Rattle.demands_message.proofs.Reading.{third}
 -- .. and writing it, forwards or from the end, gives the same bytes back
-pub use Rattle.demands_message.specs.Writing.{forwards, from-the-end}
+pub use Rattle.demands_message.proofs.Writing.{forwards, from-the-end}
 -- .. and the same for runs of values of one wire type, with a table of as many records as the run has bytes, proved once for every type
 pub use Rattle.demands_run.specs.Runs.{WholeRun, ThirdRun, run-third, run-back, run-back-short, run-writes}
 pub use Rattle.demands_run.specs.Runs.{run-count-same, run-value-record, run-value-found, run-value-absent}

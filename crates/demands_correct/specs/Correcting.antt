@@ -32,9 +32,10 @@ use Rattle.entry_message.specs.Messages.{Part, part_of, part_at, picked_of, pick
 use Rattle.correct_supply.specs.declared.Supply.{Supply}
 use Rattle.correct_supply.specs.declared.Supply.TheVariants as supply
 use Rattle.correct_supply.specs.Supplying.{nowhere, chosen, judged, supply_of, supplier_of, supplied_by, part_in, corrected_part}
-use Rattle.correct_supply.specs.SupplyLaws.{original-inside, correction-inside}
+use Rattle.correct_supply.proofs.SupplyLaws.{original-inside, correction-inside}
 use Rattle.correct_supply.specs.Meaning as meaning
-use Rattle.correct_supply.specs.Meaning.{bare_bytes, FirstOf, Has, Of, has-held, Said, said}
+use Rattle.correct_supply.specs.Meaning.{bare_bytes, FirstOf, Has, Of, Said}
+use Rattle.correct_supply.proofs.Meaning.{has-held, said}
 use Rattle.correct_write.specs.Corrected.{corrected, Items, Refused, taken, write_corrected, write-original, write-correction, write-long, write_done}
 use Rattle.correct_write.specs.TagByTag.{items_of_tag, replaced, good-ordered, corrected-tags, only-list}
 use Rattle.correct_write.specs.Applied.{Means, taken-means, result-means, write_again, result-short, nothing-corrected, nothing-there, Was, done_refused, was}

@@ -17,7 +17,8 @@ use Rattle.entry_answer.specs.Gate.{gated, through, through-open, through-shut, 
 use Rattle.entry_answer.specs.declared.Gated.TheVariants.{Open, Shut}
 use Rattle.correct_supply.specs.Supplying.{held_in, accepting}
 use Rattle.correct_supply.specs.SupplyLaws.{held-shut, held-open}
-use Rattle.correct_supply.specs.Meaning.{HeldRefused, HeldFields, has-held}
+use Rattle.correct_supply.specs.Meaning.{HeldRefused, HeldFields}
+use Rattle.correct_supply.proofs.Meaning.{has-held}
 use Rattle.correct_write.specs.Corrected.{Items, Refused, taken_of, taken}
 use Rattle.demands_order.specs.Order.{first_of}
 use Rattle.demands_order.specs.Rules.{message_rules, fields_in, pick_at_order}

@@ -1,1 +1,2 @@
 // Corrections over an original: theorems, no code.
+#![tactic(auto)]

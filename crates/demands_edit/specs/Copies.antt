@@ -1,19 +1,17 @@
 -- A working copy (rules H1 to H3): what its tests say of each record, and the list that it stands for.
-use Rattle.std.specs.Prelude.{ℕ, zero, suc, ◌+◌, ◌-◌, ◌*◌, ◌≤◌, ◌<◌, ◌≡◌, refl, Bool, true, false, List, [], ◌∷◌, ◌++◌, ◌⊎◌, leb, ltb, length, take, drop}
-use Rattle.std.proofs.Common.{ap, ◌∙◌, sym, inl, inr, arith, leb-true, leb-false, ltb-true, ltb-false, le-leb, take_at, drop_at}
-use Rattle.std.proofs.lemmas.Bool.{lt-leb}
-use Rattle.wire.specs.Choose.{choose}
+use Rattle.std.specs.Prelude.{ℕ, zero, suc, ◌+◌, ◌-◌, ◌≤◌, ◌<◌, ◌≡◌, refl, Bool, true, false, List, [], ◌∷◌, ◌++◌, leb, length, take, drop}
+use Rattle.std.proofs.Common.{ap, ◌∙◌, sym, arith, leb-true, le-leb, take_at, drop_at}
 use Rattle.wire.specs.Limits.{message_limit, no_key}
 use Rattle.wire.specs.Written.{Item}
 use Rattle.wire.specs.Places.{item_of, items}
 use Rattle.wire.specs.Table.{room, record_at, field_in, fields_from, good}
-use Rattle.write_record.specs.Records.{tag_before, judge, Verdict, AllFine, First, Fine, tested, checked}
+use Rattle.write_record.specs.Records.{tag_before, Verdict, AllFine, First, tested, checked}
 use Rattle.write_record.specs.RecordLaws.{judge-good, judge-fine, fine-at}
-use Rattle.write_record.specs.Taken.{record_in, record-there}
+use Rattle.write_record.specs.Taken.{record-there}
 use Rattle.write_message.specs.WritingLaws.{checked-tests, checked-fine, no-fine}
 use Rattle.edit_live.specs.Spans.{span_of, span_in, meets_any, first_overlap, keyed_at, first_keyed}
 use Rattle.edit_live.specs.SpanLaws.{Apart, span-there, over-apart, apart-over, first-most, keyed-none, none-keyed}
-use Rattle.edit.specs.Edits.{and_at, vetted}
+use Rattle.edit.specs.Edits.{vetted}
 use Rattle.wire.specs.declared.Refusal.TheVariants.{BadRecord}
 use Rattle.wire.specs.declared.Record.{Record}
 use Rattle.wire.specs.declared.Field.{Field}

@@ -1,20 +1,19 @@
 -- A working copy and a plain list (rule H10): by the definitions that the contracts cite, an edit leaves a working copy, and the list that it stands for is the
 -- plain one with the same edit.
-use Rattle.std.specs.Prelude.{ℕ, zero, suc, ◌+◌, ◌-◌, ◌*◌, ◌^◌, ◌≤◌, ◌<◌, ◌≡◌, refl, Bool, true, false, List, [], ◌∷◌, ◌++◌, leb, ltb, eqb, length, take, drop}
-use Rattle.std.proofs.Common.{ap, ◌∙◌, sym, subst, arith, leb-true, leb-false, ltb-true, ltb-false, le-leb, lt-ltb, le-ltb, eqb-true, eq-eqb, ne_eqb}
+use Rattle.std.specs.Prelude.{ℕ, zero, suc, ◌+◌, ◌-◌, ◌^◌, ◌≤◌, ◌<◌, ◌≡◌, refl, Bool, true, false, List, ◌∷◌, ◌++◌, leb, ltb, eqb, length}
+use Rattle.std.proofs.Common.{ap, ◌∙◌, sym, subst, arith, leb-true, leb-false, ltb-true, ltb-false, le-leb, eqb-true, eq-eqb, ne_eqb}
 use Rattle.std.proofs.lemmas.Bool.{lt-leb, eqb-false}
-use Rattle.wire.specs.Choose.{choose}
-use Rattle.wire.specs.Limits.{message_limit, record_words, no_key}
-use Rattle.wire.specs.Written.{Content, Payload, Item, written}
+use Rattle.wire.specs.Limits.{message_limit}
+use Rattle.wire.specs.Written.{Item}
 use Rattle.wire.specs.Places.{shown, items}
 use Rattle.wire.specs.Table.{room, stamped, record_at, value_of, fields_from, good, head-above}
 use Rattle.write_record.specs.Taken.{record_in, record-there}
-use Rattle.write_record.specs.Records.{Verdict, AllFine, First, checked}
-use Rattle.write_insertion.specs.Insertion.{Insertion, spot, aim, inserted, inserts}
+use Rattle.write_record.specs.Records.{AllFine}
+use Rattle.write_insertion.specs.Insertion.{Insertion, spot, inserted}
 use Rattle.write_insertion.specs.InsertionLaws.{aim-bad, aim-puts, inserts-refuses, inserts-puts}
 use Rattle.edit_live.specs.Spans.{end, span_of, span_in, total}
-use Rattle.edit.specs.Edits.{Edit, vetted, at_index, replaceable, insertable, Laid, laid, removed, remove_record, replace_payload, new_payload, insert_payload}
-use Rattle.edit.specs.EditLaws.{index-past, index-fine, replace-first, replace-other, replace-full, replace-fine, insert-full, insert-rows, insert-fine}
+use Rattle.edit.specs.Edits.{Edit, insertable, Laid, laid, remove_record, replace_payload, new_payload, insert_payload}
+use Rattle.edit.proofs.EditLaws.{index-past, index-fine, replace-first, replace-other, replace-full, replace-fine, insert-full, insert-rows, insert-fine}
 use Rattle.edit.specs.EditLaws.{remove_first, remove-done, replace-refused, replace-done, insert-refused, insert-done}
 use Rattle.wire.specs.declared.Record.{Record}
 use Rattle.wire.specs.declared.Refusal.TheVariants.{NoRoom, BadRecord}
@@ -23,7 +22,7 @@ use Rattle.wire.specs.declared.Inserted.TheVariants.{Count, Refused}
 use Rattle.demands_edit.specs.Plain.{Remove, Replace, Insert, payload, without, among, is_payload, payload_at, loads, edited}
 use Rattle.demands_edit.specs.Plain.{without-past, payload-there, payload-past}
 use Rattle.demands_edit.specs.Copies.{Copy, copy-vetted, rows-there, listed, item_at, items-length}
-use Rattle.demands_edit.specs.Keeping.{Over, Lays, laid-over}
+use Rattle.demands_edit.specs.Keeping.{Lays, laid-over}
 use Rattle.demands_edit.specs.Edited.{removed-copy, removed-list, listed_at, replaced-copy, replaced-list, over-copy, over-list, new-good, inserted-copy}
 use Rattle.demands_edit.specs.Edited.{inserted-list}
 use Rattle.demands_edit.specs.Edited.{total-all, total-without, total-fits, removed-rows, replaced-rows, inserted-rows}

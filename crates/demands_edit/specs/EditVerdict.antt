@@ -1,16 +1,15 @@
 -- The first demand for edits, over every outcome: which number is told, exactly, and that a refusal leaves room and table as they were.
-use Rattle.std.specs.Prelude.{ℕ, zero, suc, ◌+◌, ◌-◌, ◌^◌, ◌≤◌, ◌<◌, ◌≡◌, refl, Bool, true, false, not, List, [], ◌∷◌, ◌++◌, ltb, leb, eqb, length}
-use Rattle.std.proofs.Common.{ap, ◌∙◌, sym, subst, arith, leb-true, leb-false, ltb-true, ltb-false, le-leb, lt-ltb, le-ltb, eqb-true}
+use Rattle.std.specs.Prelude.{ℕ, zero, suc, ◌+◌, ◌^◌, ◌≤◌, ◌<◌, ◌≡◌, refl, Bool, true, false, not, List, [], ◌∷◌, ◌++◌, ltb, leb, eqb, length}
+use Rattle.std.proofs.Common.{ap, ◌∙◌, sym, subst, arith, leb-true, leb-false, ltb-true, ltb-false, le-leb, eqb-true}
 use Rattle.std.proofs.lemmas.Bool.{lt-leb, eqb-false}
 use Rattle.wire.specs.Choose.{choose}
 use Rattle.wire.specs.Limits.{message_limit}
 use Rattle.wire.specs.Numbers.{number_of}
-use Rattle.wire.specs.Table.{room, record_at, stamped}
+use Rattle.wire.specs.Table.{room, record_at}
 use Rattle.wire.specs.declared.Record.{Record}
 use Rattle.wire.specs.declared.Refusal.{Refusal}
 use Rattle.wire.specs.declared.Refusal.TheVariants.{NoRoom, BadRecord}
 use Rattle.wire.specs.declared.Inserted.{Inserted}
-use Rattle.wire.specs.declared.Inserted.TheVariants.{Count, Refused}
 use Rattle.write_record.specs.Taken.{record_in, record-there}
 use Rattle.write_record.specs.Records.{Verdict, AllFine, First, checked}
 use Rattle.write_insertion.specs.Insertion.{Insertion}
@@ -18,11 +17,12 @@ use Rattle.entry_answer.specs.Told as told
 use Rattle.entry_answer.specs.Told.{inserted_told}
 use Rattle.edit_live.specs.Spans.{span_in, meets_any, first_where, keyed_at, total}
 use Rattle.edit_live.specs.SpanLaws.{first_some, first-here, first_on, first-most}
-use Rattle.edit.specs.Edits.{Edit, and_at, vetted, vet_told, at_index, replaceable, insertable, Laid, laid, removes, remove_record, replaces, replace_payload}
-use Rattle.edit.specs.Edits.{inserts_new, insert_payload}
-use Rattle.edit.specs.EditLaws.{vetted-count, index-first, index-past, index-fine, replace-first, replace-other, replace-full, replace-fine, insert-first}
-use Rattle.edit.specs.EditLaws.{insert-full}
-use Rattle.edit.specs.EditLaws.{insert-rows, inserted-fits, remove_first, remove-done, replace-refused, replace-done, insert-refused}
+use Rattle.edit.specs.Edits.{Edit, and_at, vetted, at_index, replaceable, insertable, removes, remove_record, replaces, replace_payload}
+use Rattle.edit.specs.Edits.{insert_payload}
+use Rattle.edit.proofs.EditLaws.{vetted-count, index-first, index-past, index-fine, replace-first, replace-other, replace-full, replace-fine, insert-first}
+use Rattle.edit.proofs.EditLaws.{insert-full}
+use Rattle.edit.specs.EditLaws.{remove_first, remove-done, replace-refused, replace-done, insert-refused}
+use Rattle.edit.proofs.EditLaws.{insert-rows, inserted-fits}
 use Rattle.edit.proofs.remove_record.Kinds as remove
 use Rattle.edit.proofs.remove_record.Reads as remove-reads
 use Rattle.edit.proofs.replace_payload.Kinds as replace
@@ -38,10 +38,10 @@ use Rattle.capgauze_c.proofs.capgauze_insert_payload.Kinds as c-insert
 use Rattle.capgauze_c.proofs.capgauze_insert_payload.Reads as c-insert-reads
 use Rattle.demands_order.specs.Calls.{Every}
 use Rattle.demands_order.specs.Order.{Rule, when, first_of, or_else, refused-first, Numbered}
-use Rattle.demands_order.specs.Rules.{order_t}
-use Rattle.demands_order.specs.RulesLaws.{above, behind, verdict_number, order-t}
+use Rattle.demands_order.specs.RulesLaws.{behind, verdict_number}
+use Rattle.demands_order.proofs.RulesLaws.{order-t}
 use Rattle.demands_order.specs.Verdicts.{by_order}
-use Rattle.demands_edit.specs.Copies.{Copy, vetted-copy, rows-there}
+use Rattle.demands_edit.specs.Copies.{Copy, vetted-copy}
 use Rattle.demands_edit.specs.Edited.{total-fits}
 use Rattle.demands_edit.specs.EditKeeps.{insert-outcome, insert-bad-tag}
 use Rattle.demands_edit.specs.EditRules.{flagged, order_e, index_rule, full_rule, remove_record_order, replace_payload_order, insert_payload_order}

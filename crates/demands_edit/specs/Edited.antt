@@ -1,14 +1,13 @@
 -- The records of a working copy after an edit: it is a working copy again, and stands for the plain list with the same edit. Over the definitions that the
 -- contracts cite.
 use Rattle.std.specs.Prelude.{ℕ, zero, suc, ◌+◌, ◌-◌, ◌*◌, ◌/◌, ◌^◌, ◌≤◌, ◌<◌, ◌≡◌, refl, Bool, true, false, List, [], ◌∷◌, ◌++◌, ◌⊎◌, leb, ltb, eqb, length, take, drop, get_or, set}
-use Rattle.std.proofs.Common.{ap, ◌∙◌, sym, inl, inr, arith, length-set, get_or-take, get_or-drop, get_or-set_same, get_or-set_other, length-take-le}
-use Rattle.std.proofs.Math.Numerals.{towards_suc}
-use borrow.Author.Tests.{leb-true, leb-false, ltb-true, ltb-false, le-leb, lt-leb, lt-ltb, le-ltb, eqb-true, eqb-false}
+use Rattle.std.proofs.Common.{ap, ◌∙◌, sym, inl, inr, arith, length-set, get_or-take, get_or-drop, get_or-set_same, get_or-set_other}
+use borrow.Author.Tests.{leb-true, leb-false, ltb-true, ltb-false, le-leb, lt-ltb, le-ltb, eqb-true, eqb-false}
 use Rattle.std.proofs.lemmas.List.Edits.{sets, sets-eq}
 use Rattle.std.proofs.Math.Seq.{length-sets}
 use Rattle.wire.specs.Choose.{choose}
 use Rattle.wire.specs.Limits.{message_limit, record_words, no_key}
-use Rattle.wire.specs.Written.{Content, Payload, Item}
+use Rattle.wire.specs.Written.{Item}
 use Rattle.wire.specs.Places.{part, shown, item_of, items}
 use Rattle.wire.specs.Table.{words, room, record_at, value_of, field_in, fields_from, good_head, good_value, good, head-key, key-none}
 use Rattle.write_record.specs.Taken.{record-there}
@@ -17,10 +16,10 @@ use Rattle.write_insertion.specs.Insertion.{spot, inserted}
 use Rattle.write_insertion.specs.InsertionLaws.{spot-inside}
 use Rattle.edit_pack.specs.PackTable.{neat}
 use Rattle.place.specs.Place.{length_part}
-use Rattle.edit_live.specs.Spans.{end, no_span, span_of, span_in, total}
-use Rattle.edit_live.specs.SpanLaws.{same_or_not, Live, span-other, span-live, span-empty, span-skip, Apart, apart-over, none-keyed}
+use Rattle.edit_live.specs.Spans.{end, span_of, span_in, total}
+use Rattle.edit_live.specs.SpanLaws.{same_or_not, span-other, span-live, span-empty, span-skip, Apart, apart-over, none-keyed}
 use Rattle.edit_live.specs.declared.Span.{Span}
-use Rattle.edit.specs.Edits.{Laid, laid, removed}
+use Rattle.edit.specs.Edits.{Laid, removed}
 use Rattle.wire.specs.declared.Record.{Record}
 use Rattle.demands_message.specs.Inserting.{stays, holds, same-record, stored, before-spot, behind-spot, at-spot, inserted-fields, lower-before, higher-behind}
 use Rattle.demands_message.specs.Inserting.{stays-good}

@@ -1,6 +1,6 @@
 -- A WORKING COPY IS A PLAIN LIST (rule H10): after any calls, each with an outcome that its contract allows, it is a working copy, it stands for the list that
 -- a plain one with the same edits would be, and it is written as that list is.
-use Rattle.std.specs.Prelude.{ℕ, zero, suc, ◌+◌, ◌-◌, ◌^◌, ◌≤◌, ◌<◌, ◌≡◌, refl, List, [], ◌∷◌, length}
+use Rattle.std.specs.Prelude.{ℕ, ◌^◌, ◌≤◌, ◌<◌, ◌≡◌, refl, List, [], ◌∷◌, length}
 use Rattle.std.proofs.Common.{ap, ◌∙◌, sym, subst, arith}
 use contract.Lifetimes.{Lfts}
 use borrow.Fn.Kinds.{Dens, res_t, ended_of}

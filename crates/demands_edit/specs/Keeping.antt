@@ -1,32 +1,30 @@
 -- New bytes laid into a working copy (rules H4 and H5): every other record shows what it showed, and none overlaps another or the new bytes.
-use Rattle.std.specs.Prelude.{ℕ, zero, suc, ◌+◌, ◌-◌, ◌*◌, ◌≤◌, ◌<◌, ◌≡◌, Bool, List, [], ◌∷◌, ◌++◌, ◌⊎◌, ltb, eqb, take, drop}
+use Rattle.std.specs.Prelude.{ℕ, zero, suc, ◌+◌, ◌-◌, ◌≤◌, ◌<◌, ◌≡◌, Bool, List, ◌⊎◌, eqb, take, drop}
 use Rattle.std.proofs.Math.Path.{refl}
-use Rattle.std.proofs.Common.{ap, ◌∙◌, sym, inl, inr, arith, leb-true, leb-false, ltb-true, ltb-false, le-leb, eqb-true, eq-eqb}
+use Rattle.std.proofs.Common.{ap, ◌∙◌, sym, inl, inr, arith, leb-true, le-leb, eqb-true, eq-eqb}
 use Rattle.std.proofs.Math.Bool.{true, false}
-use Rattle.std.proofs.lemmas.Bool.{lt-leb, eqb-false}
+use Rattle.std.proofs.lemmas.Bool.{eqb-false}
 use Rattle.std.proofs.Math.Dec.{leb}
 use Rattle.std.proofs.Math.ListN.{length}
 use Rattle.std.proofs.lemmas.List.Edits.{sets}
 use Rattle.std.proofs.Math.Seq.{length-sets}
-use Rattle.wire.specs.Choose.{choose}
-use Rattle.wire.specs.Limits.{message_limit}
-use Rattle.wire.specs.Written.{Content, Payload, Item}
+use Rattle.wire.specs.Written.{Content, Payload}
 use Rattle.wire.specs.Places.{shown, item_of}
 use Rattle.wire.specs.Table.{room, record_at, value_of, field_in, good_head, good_value, good}
 use Rattle.write_record.specs.RecordLaws.{good-sound}
 use Rattle.write_record.specs.Taken.{record_in, record-there}
-use Rattle.place.specs.Place.{Placed, put_at, put-roomy}
+use Rattle.place.specs.Place.{put-roomy}
 use Rattle.edit_live.specs.Spans.{end, no_span, span_of, span_in, last_end, total}
-use Rattle.edit_live.specs.SpanLaws.{same_or_not, Live, span-case, span-live, span-other, span-empty, span-there, span-skip, Apart, end-most, span-inside}
+use Rattle.edit_live.specs.SpanLaws.{same_or_not, Live, span-live, span-other, span-empty, span-there, span-skip, Apart, end-most, span-inside}
 use Rattle.edit_live.specs.declared.Span.{Span}
-use Rattle.edit_pack.specs.Packing.{bytes_of, Packed, empty_at, packed, before}
+use Rattle.edit_pack.specs.Packing.{bytes_of, Packed, packed, before}
 use Rattle.edit_pack.specs.Sums.{before-apart}
 use Rattle.edit_pack.specs.Stretches.{put-there, put-below}
 use Rattle.edit_pack.specs.Amending.{with_value}
 use Rattle.edit_pack.specs.PackTable.{Packs, Neat, neat, empty-skip, empty-other, empty-length}
-use Rattle.edit.specs.Edits.{Laid, laid_behind, laid, fitting}
+use Rattle.edit.specs.Edits.{Laid, laid}
 use Rattle.wire.specs.declared.Record.{Record}
-use Rattle.demands_edit.specs.Copies.{Copy, Rows, copy-rows, rows-there}
+use Rattle.demands_edit.specs.Copies.{Copy, copy-rows, rows-there}
 
 -- ---- WHAT A RECORD SHOWS
 

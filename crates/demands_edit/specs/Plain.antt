@@ -1,6 +1,6 @@
 -- A plain list and the same edits: what a working copy is held to (rule H10).
 use Rattle.std.specs.Prelude.{ℕ, zero, suc, ◌+◌, ◌≤◌, ◌<◌, ◌≡◌, refl, Bool, true, false, List, [], ◌∷◌, ◌++◌, ltb, leb, length}
-use Rattle.std.proofs.Common.{ap, ◌∙◌, sym, arith, le-leb}
+use Rattle.std.proofs.Common.{ap, arith, le-leb}
 use Rattle.std.proofs.lemmas.Bool.{lt-leb}
 use Rattle.wire.specs.Choose.{choose}
 use Rattle.wire.specs.Written.{Content, Number, Payload, Four, Eight, Item}

@@ -1,1 +1,2 @@
 // Working copies: theorems, no code.
+#![tactic(auto)]

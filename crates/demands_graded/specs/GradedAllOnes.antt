@@ -14,7 +14,7 @@ use Rattle.wire.specs.declared.Value.TheVariants.{Varint, LengthDelimited, Thirt
 use Rattle.wire.specs.declared.Field.{Field}
 use Rattle.wire.specs.declared.Refusal.TheVariants.{NoRoom}
 use Rattle.message.specs.Tags.{of_tag}
-use Rattle.sounding_value.specs.Values.{entered, in_range, sent}
+use Rattle.sounding_value.specs.Values.{entered, in_range}
 use Rattle.sounding_value.specs.declared.Measured.TheVariants.{Missing}
 use Rattle.sounding_value.specs.declared.MeasuredFound.{MeasuredFound}
 use Rattle.sounding_value.specs.declared.MeasuredFound.TheVariants as measured_found
@@ -26,12 +26,10 @@ use Rattle.sounding.specs.declared.LevelFound.{LevelFound}
 use Rattle.sounding.specs.declared.LevelFound.TheVariants as level_found
 use Rattle.sounding.specs.declared.HeadFound.{HeadFound}
 use Rattle.sounding.specs.declared.HeadFound.TheVariants as head_found
-use Rattle.sounding_grade.specs.Grades.{first_below}
 use Rattle.sounding_grade.specs.Flaws.{gated-first}
 use Rattle.sounding_grade.specs.declared.Grade.{Grade}
 use Rattle.sounding_grade.specs.declared.Grade.TheVariants.{NotCanonical}
 use Rattle.sounding_wind.specs.Windy.{speed, direction, windy_of, windy}
-use Rattle.sounding_wind.specs.declared.Windy.{Windy}
 use Rattle.sounding_wind.specs.declared.WindyFound.{WindyFound}
 use Rattle.sounding_wind.specs.declared.WindyFound.TheVariants as windy_found
 use Rattle.sounding_graded.specs.Graded.{windy_in, Windies, All, Refused, in_front, each, windies, all_grades, Report, Judgement, Good, Bad, judged, judge}

@@ -39,12 +39,12 @@ use Rattle.c_graded.specs.Words.{as_graded, grade_of, graded_lent, graded_as}
 use Rattle.c_graded.specs.declared.Least.{Least}
 use Rattle.c_graded.specs.declared.Least.TheVariants.{Is, Unknown}
 use Rattle.demands_order.specs.Calls.{Every}
-use Rattle.demands_order.specs.Order.{Rule, when, first_of, Numbered, or_else, refused-first, ordered}
-use Rattle.demands_order.specs.Rules.{order_r, message_rules, fields_in}
+use Rattle.demands_order.specs.Order.{when, first_of, Numbered, or_else, refused-first, ordered}
 use Rattle.demands_order.specs.RulesLaws.{above, behind}
 use Rattle.demands_order.specs.Refusals.{Framed, kept, put_front}
 use Rattle.demands_sounding.specs.SoundingRules.{item_rules, level_rules}
-use Rattle.demands_sounding.specs.SoundingVerdict.{found_number, measured_number, level_number, one_sent, needed-told, measured-told, entered-told, level-told}
+use Rattle.demands_sounding.specs.SoundingVerdict.{found_number, measured_number, level_number, one_sent, entered-told}
+use Rattle.demands_sounding.proofs.SoundingVerdict.{needed-told, measured-told, level-told}
 use Rattle.demands_graded.specs.GradedRules.{windy_rules, windy_in_rules, windies_rules, grade_rules, last_rules, graded_rules, read_graded_order, least_order}
 use Rattle.demands_graded.specs.Grades.{each_placed}
 use Rattle.sounding_graded.proofs.read_graded.Kinds as read-graded
@@ -64,7 +64,7 @@ windy-told fs =
     go (level (Fields fs)) (speed (Fields fs)) (direction (Fields fs))
     ∙ behind (level_rules fs) (item_rules Speed fs ++ item_rules Direction fs) (level-told fs)
     (behind (item_rules Speed fs) (item_rules Direction fs)
-    (measured-told _ (range_of Speed) (of_tag (tag_of Speed) fs)) (measured-told _ (range_of Direction) (of_tag (tag_of Direction) fs)))
+    (measured-told (tag_of Speed) (range_of Speed) (of_tag (tag_of Speed) fs)) (measured-told (tag_of Direction) (range_of Direction) (of_tag (tag_of Direction) fs)))
   where
     go : (l : LevelFound) (s d : MeasuredFound) → windy_number (windy_of l s d) ≡ or_else (level_number l) (or_else (measured_number s) (measured_number d))
     go (level_found.Refused r) s d = sym (refused-first r _)
@@ -147,8 +147,8 @@ graded-told s t least fs =
     let w : Windy = record { level = record { pressure = 0; temperature = Missing; depression = Missing }; speed = Missing; direction = Missing } in
     stored-told s t least fs (number_as Station (one_sent (of_tag (tag_of Station) fs))) (number_as Launch (one_sent (of_tag (tag_of Launch) fs))) (each (opened s) ls)
     (λ vs h. (each_placed (opened s) f w ls vs h).0)
-    ∙ behind (item_rules Station fs) (item_rules Launch fs ++ (windies_rules s ls ++ last)) (needed-told _ (range_of Station) (of_tag (tag_of Station) fs))
-    (behind (item_rules Launch fs) (windies_rules s ls ++ last) (needed-told _ (range_of Launch) (of_tag (tag_of Launch) fs))
+    ∙ behind (item_rules Station fs) (item_rules Launch fs ++ (windies_rules s ls ++ last)) (needed-told (tag_of Station) (range_of Station) (of_tag (tag_of Station) fs))
+    (behind (item_rules Launch fs) (windies_rules s ls ++ last) (needed-told (tag_of Launch) (range_of Launch) (of_tag (tag_of Launch) fs))
     (behind (windies_rules s ls) last (windies-told s ls) refl))
 
 graded-refused : (s t : List ℕ) (least : Grade) (r : Refusal) (p : ℕ) → graded_number t least (judge (opened s) (reading.Refused r p)) ≡ number_of r

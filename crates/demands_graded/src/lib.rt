@@ -1,1 +1,2 @@
 // Soundings of the second edition: theorems, no code.
+#![tactic(auto)]

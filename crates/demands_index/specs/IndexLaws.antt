@@ -1,16 +1,18 @@
 -- A lookup through the index that was made of a message, and the full pick: one answer.
-use Rattle.std.specs.Prelude.{ℕ, zero, suc, ◌+◌, ◌-◌, ◌*◌, ◌/◌, ◌%◌, ◌^◌, ◌≤◌, ◌<◌, ◌≡◌, refl, Bool, true, false, List, [], ◌∷◌, ◌++◌, eqb, length, drop, get_or}
-use Rattle.std.proofs.Common.{ap, ◌∙◌, sym, arith, lt-ltb, eq-eqb, ne_eqb, eqb-true, le-leb, length-append}
+use Rattle.std.specs.Prelude.{ℕ, zero, suc, ◌+◌, ◌-◌, ◌/◌, ◌^◌, ◌<◌, ◌≡◌, refl, Bool, true, false, List, [], ◌∷◌, eqb, length}
+use Rattle.std.proofs.Common.{ap, ◌∙◌, sym, arith, lt-ltb, ne_eqb, eqb-true}
 use Rattle.std.proofs.lemmas.Bool.{eqb-false}
-use Rattle.wire.specs.Reading.{key_at, field_at, value_at, Fields, read_message}
-use Rattle.wire.specs.ReadingLaws.{Keyed, Found, field_found_lem, field-moves}
+use Rattle.wire.specs.Reading.{key_at, field_at, Fields, read_message}
+use Rattle.wire.specs.ReadingLaws.{Keyed}
+use Rattle.wire.proofs.ReadingLaws.{field_found_lem, field-moves}
 use Rattle.wire.specs.StepLaws.{field-keyed}
-use Rattle.wire.specs.Marks.{Mark, marks_from, marks, fields_of, marks-fields}
-use Rattle.wire.specs.MarkLaws.{Marked, none, some, marked, Rising, marks-rise}
+use Rattle.wire.specs.Marks.{Mark, marks_from, marks, fields_of}
+use Rattle.wire.proofs.Marks.{marks-fields}
+use Rattle.wire.specs.MarkLaws.{Marked, none, some, marked, Rising}
+use Rattle.wire.proofs.MarkLaws.{marks-rise}
 use Rattle.wire.specs.declared.Key.{Key}
 use Rattle.wire.specs.declared.Field.{Field}
 use Rattle.wire.specs.declared.KeyFound.TheVariants as key_found
-use Rattle.wire.specs.declared.ValueFound.TheVariants as value_found
 use Rattle.wire.specs.declared.FieldFound.TheVariants as field_found
 use Rattle.message.specs.Tags.{of_tag}
 use Rattle.entry_answer.specs.declared.Picked.{Picked}

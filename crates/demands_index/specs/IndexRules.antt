@@ -1,5 +1,5 @@
 -- The refusals of the index's entries, each in its order (rules A3, A6, A7, A8 and A9).
-use Rattle.std.specs.Prelude.{ℕ, zero, suc, ◌+◌, ◌-◌, ◌*◌, ◌^◌, not, List, [], ◌∷◌, ◌++◌, ltb, leb, eqb, length}
+use Rattle.std.specs.Prelude.{ℕ, zero, suc, ◌+◌, ◌-◌, ◌*◌, ◌^◌, not, List, [], ◌∷◌, ◌++◌, ltb, eqb, length}
 use Rattle.wire.specs.Reading.{key_at, value_at, field_at}
 use Rattle.wire.specs.Marks.{marks}
 use Rattle.wire.specs.declared.Refusal.TheVariants.{NoRoom, Repeated, BadIndex}

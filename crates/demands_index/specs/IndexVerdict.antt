@@ -1,11 +1,9 @@
 -- The first demand for the index's entries, over every outcome: which number is told, exactly, and that a refusal leaves index and line as they were.
-use Rattle.std.specs.Prelude.{ℕ, zero, suc, ◌+◌, ◌-◌, ◌*◌, ◌^◌, ◌≤◌, ◌<◌, ◌≡◌, refl, Bool, true, false, not, List, [], ◌∷◌, ◌++◌, ltb, leb, eqb, length, drop}
-use Rattle.std.proofs.Common.{ap, ◌∙◌, sym, subst, arith, leb-true, leb-false, lt-ltb, le-ltb, le-leb}
-use Rattle.std.proofs.lemmas.Bool.{lt-leb}
+use Rattle.std.specs.Prelude.{ℕ, zero, suc, ◌+◌, ◌-◌, ◌*◌, ◌^◌, ◌≡◌, refl, Bool, true, false, not, List, [], ◌∷◌, ◌++◌, ltb, leb, eqb, length}
+use Rattle.std.proofs.Common.{ap, ◌∙◌, sym, subst, arith, leb-true, leb-false, lt-ltb, le-ltb}
 use Rattle.wire.specs.Numbers.{number_of}
 use Rattle.wire.specs.Reading.{key_at, value_at, field_at, Message, Fields, read_message}
 use Rattle.wire.specs.Reading as reading
-use Rattle.wire.specs.declared.Refusal.{Refusal}
 use Rattle.wire.specs.declared.Refusal.TheVariants.{NoRoom, Repeated, BadIndex}
 use Rattle.wire.specs.declared.Value.{Value}
 use Rattle.wire.specs.declared.KeyFound.{KeyFound}
@@ -22,7 +20,7 @@ use Rattle.entry_answer.specs.Told as told
 use Rattle.entry_answer.specs.Told.{put_told, picked_told, indexed_told}
 use Rattle.entry_answer.specs.declared.Indexed.TheVariants as indexed_as
 use Rattle.entry_answer.specs.declared.Picked.TheVariants as picked_as
-use Rattle.index.specs.Index.{Entry, index_words, entry_words, length-words, room, indexed, entries_from, sound_index, Outcome, outcome, landed}
+use Rattle.index.specs.Index.{Entry, index_words, entry_words, length-words, room, entries_from, sound_index, Outcome, outcome, landed}
 use Rattle.index_make.specs.Made.{Made, Entries, Refused, made, taken, make_index}
 use Rattle.index_make.specs.Meaning.{Listed, unlisted, listed, entry_of}
 use Rattle.index_pick.specs.declared.Followed.{Followed}

@@ -1,17 +1,14 @@
 -- THE INDEX OF A MESSAGE (rules A1 to A7), over every outcome: a lookup through it is the full pick; what it means; and which index fits a message.
-use Rattle.std.specs.Prelude.{ℕ, suc, ◌+◌, ◌-◌, ◌*◌, ◌^◌, ◌≤◌, ◌<◌, ◌≡◌, refl, Bool, true, false, List, [], ◌∷◌, ◌++◌, leb, eqb, length, take, drop}
+use Rattle.std.specs.Prelude.{ℕ, suc, ◌+◌, ◌-◌, ◌*◌, ◌^◌, ◌≤◌, ◌≡◌, refl, Bool, true, false, List, [], ◌∷◌, ◌++◌, leb, eqb, length, take, drop}
 use Rattle.std.proofs.Math.Path.{ap, sym}
-use Rattle.std.proofs.Common.{◌∙◌, subst, arith, leb-true, leb-false, eq-eqb, eqb-true, length-append, take-append-drop, take_at}
-use Rattle.std.proofs.lemmas.List.{length-map}
-use Rattle.std.proofs.Math.Seq.{take-append_seam}
+use Rattle.std.proofs.Common.{◌∙◌, arith, leb-true, leb-false, eq-eqb, eqb-true, length-append, take-append-drop, take_at}
 use Rattle.wire.specs.Limits.{message_limit}
 use Rattle.wire.specs.Reading.{Message, Fields, read_message}
 use Rattle.wire.specs.Reading as reading
-use Rattle.wire.specs.Marks.{Mark, marks, fields_of, marks-fields}
-use Rattle.wire.specs.MarkLaws.{marks-rise}
-use Rattle.wire.specs.Theorem.{accepted}
+use Rattle.wire.specs.Marks.{Mark, marks, fields_of}
+use Rattle.wire.proofs.Marks.{marks-fields}
+use Rattle.wire.proofs.MarkLaws.{marks-rise}
 use Rattle.wire.specs.declared.Refusal.{Refusal}
-use Rattle.wire.specs.declared.Refusal.TheVariants.{NoRoom}
 use Rattle.wire.specs.declared.Field.{Field}
 use Rattle.message.specs.Tags.{of_tag}
 use Rattle.entry_answer.specs.Gate.{gated, gated-open, gated-opens, through-open}
@@ -19,9 +16,8 @@ use Rattle.entry_answer.specs.declared.Gated.{Gated}
 use Rattle.entry_answer.specs.declared.Gated.TheVariants.{Open, Shut}
 use Rattle.entry_answer.specs.declared.Indexed.{Indexed}
 use Rattle.entry_answer.specs.declared.Indexed.TheVariants.{Tags, Refused}
-use Rattle.entry_answer.specs.declared.Picked.{Picked}
-use Rattle.entry_message.specs.Messages.{picked, picked_of, pick_entry}
-use Rattle.index.specs.Index.{Entry, entry, index_words, entry_words, length-words, room, indexed, entries_from, entries-indexed, sound_index, sound-indexed}
+use Rattle.entry_message.specs.Messages.{picked, pick_entry}
+use Rattle.index.specs.Index.{Entry, index_words, entry_words, length-words, room, indexed, entries-indexed, sound_index, sound-indexed}
 use Rattle.index.specs.Index.{Outcome, outcome}
 use Rattle.index_make.specs.Made.{index_of, Made, made, make_index, make-shut, make-refused, make-no-room, make-fits, starts, starts-true, starts-same}
 use Rattle.index_make.specs.Made.{agrees, index_fits, fits-shut, fits-open}

@@ -10,7 +10,7 @@ use Rattle.entry_answer.specs.declared.Indexed.{Indexed}
 use Rattle.entry_answer.specs.declared.Indexed.TheVariants.{Tags}
 use Rattle.entry_answer.specs.declared.Put.{Put}
 use Rattle.entry_answer.specs.declared.Put.TheVariants as put
-use Rattle.index.specs.Index.{index_words, room, indexed, entries_from, sound_index, Outcome, outcome}
+use Rattle.index.specs.Index.{room, indexed, entries_from, sound_index, Outcome, outcome}
 use Rattle.index_line.specs.Line.{head_digits, width, line_of, write_line, read_either}
 use Rattle.index_line.specs.Lines.{length-written, new-back, either-back, head-new, either-there}
 use Rattle.demands_order.specs.Calls.{Every}

@@ -1,1 +1,2 @@
 // An index and its line: theorems, no code.
+#![tactic(auto)]

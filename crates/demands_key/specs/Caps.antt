@@ -20,8 +20,10 @@ use Rattle.message_table.specs.Into.{Outcome, outcome, read_into, into-refused, 
 use Rattle.entry_answer.specs.Told.{read_told}
 use Rattle.entry_message.specs.Messages.{entry-open}
 use Rattle.relay.specs.Pairs.{Pair, truncated, invalid, overflowed, invalid-past, overflowed-past}
-use Rattle.relay.specs.Cap.{moved_marks, Alike, accepts, refuses, cap-and-cut}
-use Rattle.relay.specs.Words.{moved_record, records-moved, fields-moved}
+use Rattle.relay.specs.Cap.{moved_marks, Alike, accepts, refuses}
+use Rattle.relay.proofs.Cap.{cap-and-cut}
+use Rattle.relay.specs.Words.{moved_record, fields-moved}
+use Rattle.relay.proofs.Words.{records-moved}
 use Rattle.relay.specs.Cases.{numbered, each-occurs}
 use Rattle.demands_order.specs.Calls.{Call, message, start, end, table, answer, left}
 use Rattle.demands_message.specs.Reading.{items_in}

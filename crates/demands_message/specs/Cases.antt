@@ -4,7 +4,8 @@ use Rattle.std.specs.Prelude.{ℕ, ◌-◌, ◌*◌, ◌≤◌, ◌≡◌, refl,
 use Rattle.std.proofs.Common.{ap, ◌∙◌, sym, subst, leb-true, le-leb}
 use Rattle.wire.specs.Choose.{choose, both}
 use Rattle.wire.specs.Limits.{message_limit, record_words}
-use Rattle.wire.specs.Marks.{Mark, marks, fields_of, marks-fields}
+use Rattle.wire.specs.Marks.{Mark, marks, fields_of}
+use Rattle.wire.proofs.Marks.{marks-fields}
 use Rattle.wire.specs.Numbers.{number_of}
 use Rattle.wire.specs.Varint.{encode}
 use Rattle.wire.specs.Reading.{varint_at, Message, Fields, read_message}
@@ -15,7 +16,8 @@ use Rattle.wire.specs.declared.VarintFound.{VarintFound}
 use Rattle.wire.specs.declared.VarintFound.TheVariants as varint_found
 use Rattle.wire.specs.declared.Reached.{Reached}
 use Rattle.wire.specs.Table.{room, records}
-use Rattle.wire.specs.Cases.{Case, Encodes, Varint, Reads, Skips, Right, All, cases}
+use Rattle.wire.specs.Cases.{Case, Encodes, Varint, Reads, Skips, Right, All}
+use Rattle.wire.proofs.Cases.{cases}
 use Rattle.wire.specs.Cases as format
 use Rattle.fault.specs.Fault.{message_fault}
 use Rattle.message_table.specs.Into.{Outcome, read_into, into-refused, into-fits}
@@ -85,7 +87,7 @@ Tells (Skips bs e at w to) = Skipped bs at e w to
 
 -- ---- the proof
 
-told-into : (s : List ℕ) (a e : ℕ) (t : List ℕ) (m : Message) → read_message s a e ≡ m → needed m ≤ room t
+pub told-into : (s : List ℕ) (a e : ℕ) (t : List ℕ) (m : Message) → read_message s a e ≡ m → needed m ≤ room t
     → (read_told (read_into s a e t).answer ≡ told s a e m) × Holds t (marks s a e) m (read_into s a e t).table
 told-into s a e t (Fields fs) h g = rw (into-fits s a e t fs h g) (refl, (marks-fields s a e fs h, refl))
 told-into s a e t (reading.Refused r p) h g = rw (into-refused s a e t r p h) (refl, refl)
@@ -94,18 +96,18 @@ told-into s a e t (reading.Refused r p) h g = rw (into-refused s a e t r p h) (r
 abbrev within : List ℕ → ℕ → ℕ → Bool
 within bs a e = choose (leb (length bs) message_limit) (choose (leb a (length bs)) (leb e (length bs)) false) false
 
-abbrev inside : Case → Bool
+abbrev pub inside : Case → Bool
 inside (Encodes v bs) = within bs 0 (length bs)
 inside (Varint bs found) = within bs 0 (length bs)
 inside (Reads bs a e m) = within bs a e
 inside (Skips bs e at w to) = within bs at e
 
-abbrev every : List Case → Bool
+abbrev pub every : List Case → Bool
 every [] = true
 every (c ∷ cs) = choose (inside c) (every cs) false
 
 -- so the gate is open
-open-gate : (bs : List ℕ) (a e : ℕ) → within bs a e ≡ true → gated (length bs) a e ≡ Open
+pub open-gate : (bs : List ℕ) (a e : ℕ) → within bs a e ≡ true → gated (length bs) a e ≡ Open
 open-gate bs a e i =
     let x = both (leb (length bs) message_limit) _ i in
     let y = both (leb a (length bs)) _ x.1 in
@@ -114,7 +116,7 @@ open-gate bs a e i =
 roomy : (b bs c : List ℕ) → length bs ≤ length b → room_for b bs c ≡ record { answer = Done (length bs); buf = c }
 roomy b bs c f = rw (le-leb (length bs) (length b) f)
 
-encoded : (v : ℕ) (bs : List ℕ) → encode v ≡ bs → Encoded v bs
+pub encoded : (v : ℕ) (bs : List ℕ) → encode v ≡ bs → Encoded v bs
 unfolding at_front at_end
 encoded v bs w =
     record {
@@ -129,36 +131,15 @@ encoded v bs w =
       measured = λ κs a x s p q. p ∙ ap (λ (n : ℕ). length (encode n)) q ∙ ap length w;
     }
 
-reads-varint : (bs : List ℕ) (found : VarintFound) → varint_at bs 0 ≡ found → within bs 0 (length bs) ≡ true → ReadsVarint bs found
+pub reads-varint : (bs : List ℕ) (found : VarintFound) → varint_at bs 0 ≡ found → within bs 0 (length bs) ≡ true → ReadsVarint bs found
 unfolding decode_varint
 reads-varint bs found w i κs a x s p q r =
     ap varint_told
     (p ∙ ap (λ (m : List ℕ). decode_varint m a.1.0) q ∙ ap (decode_varint bs) r ∙ through-open _ _ (open-gate bs 0 (length bs) i) ∙ ap (varint_read bs 0) w)
 
-skips : (bs : List ℕ) (at e : ℕ) (w : WireType) (to : Reached) → skip_at bs e at w ≡ to → within bs at e ≡ true → Skipped bs at e w to
+pub skips : (bs : List ℕ) (at e : ℕ) (w : WireType) (to : Reached) → skip_at bs e at w ≡ to → within bs at e ≡ true → Skipped bs at e w to
 unfolding skip_field
 skips bs at e w to h i κs a x s p q r t u =
     ap skipped_told
     (p ∙ ap (λ (m : List ℕ). skip_field m a.1.0 a.1.1.0 a.1.1.1.0) q ∙ ap (λ (j : ℕ). skip_field bs j a.1.1.0 a.1.1.1.0) r
     ∙ ap (λ (j : ℕ). skip_field bs at j a.1.1.1.0) t ∙ ap (skip_field bs at e) u ∙ through-open _ _ (open-gate bs at e i) ∙ ap (skip_answer at) h)
-
-tells : (k : Case) → Right k → inside k ≡ true → Tells k
-unfolding read_entry
-tells (Encodes v bs) w i = (encoded v bs w.0, reads-varint bs _ w.1 i)
-tells (Varint bs found) w i = reads-varint bs found w i
-tells (Reads bs a e m) w i =
-    λ c p q r g.
-    let t = table c in
-    let z = ap (λ (s : List ℕ). read_entry s (start c) (end c) t) p ∙ ap (λ (j : ℕ). read_entry bs j (end c) t) q ∙ ap (λ (j : ℕ). read_entry bs a j t) r in
-    let o = c.allowed ∙ z ∙ through-open _ _ (open-gate bs a e i) in
-    let y = told-into bs a e t m w g in
-    (ap (λ (o : Outcome). read_told o.answer) o ∙ y.0, subst (Holds t (marks bs a e) m) (sym (ap (λ (o : Outcome). o.table) o)) y.1)
-tells (Skips bs e at w to) h i = skips bs at e w to h i
-
-tell : (cs : List Case) → All Right cs → every cs ≡ true → All Tells cs
-tell [] a b = tt
-tell (c ∷ cs) a b = let x = both (inside c) (every cs) b in (tells c a.0 x.0, tell cs a.1 x.1)
-
--- THE TABLE
-pub told-cases : All Tells format.table
-told-cases = tell format.table cases refl

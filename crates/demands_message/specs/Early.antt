@@ -19,7 +19,8 @@ use Rattle.wire.specs.declared.Early.{Early}
 use Rattle.wire.specs.declared.Early.TheVariants as early
 use Rattle.message.specs.Tags.{of_tag}
 use Rattle.message_early.specs.Early.{above, only, early_of, stop}
-use Rattle.message_early.specs.Laws.{UpTo, last_of, Stopped, at-end, at_key, not-read, stopped}
+use Rattle.message_early.specs.Laws.{UpTo, last_of, Stopped, at-end, at_key, not-read}
+use Rattle.message_early.proofs.Laws.{stopped}
 use Rattle.entry_answer.specs.Gate.{gated, through, through-open, through-shut, gated-open, gated-opens}
 use Rattle.entry_message.specs.Messages.{picked_of, picked, pick_entry, early_entry}
 use Rattle.entry_answer.specs.declared.Gated.{Gated}

@@ -21,7 +21,8 @@ use Rattle.wire.specs.declared.Stepped.TheVariants as stepped
 use Rattle.wire.specs.declared.Read.{Read}
 use Rattle.wire.specs.declared.Read.TheVariants as read
 use Rattle.fault.specs.Fault.{message_fault}
-use Rattle.fault.specs.Inside.{Blamed, step-blamed, fault-inside, fault-bytes}
+use Rattle.fault.specs.Inside.{Blamed}
+use Rattle.fault.proofs.Inside.{step-blamed, fault-inside, fault-bytes}
 use Rattle.message_table.specs.Into.{Outcome, outcome, landed, read_into, into-refused, into-no-room, into-fits}
 use Rattle.entry_answer.specs.Gate.{gated, through, gated-opens, gated-number}
 use Rattle.entry_answer.specs.Told.{read_told}

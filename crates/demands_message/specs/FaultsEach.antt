@@ -1,17 +1,15 @@
 -- Where a read failed (rules F1 to F4 and F6), over every outcome that the contracts of the readers of a varint, a key and a value, and of skipping, allow.
 use Rattle.std.specs.Prelude.{ℕ, zero, suc, ◌+◌, ◌-◌, ◌≤◌, ◌<◌, ◌≡◌, Bool, true, false, List, leb, ltb, length, get_or}
 use Rattle.std.proofs.Math.Path.{refl}
-use Rattle.std.proofs.Common.{ap, ◌∙◌, sym, subst, leb-true, leb-false, ltb-true, ltb-false}
+use Rattle.std.proofs.Common.{◌∙◌, sym, subst, ltb-true, ltb-false}
 use native.Mathlib.Omega.{arith}
-use Rattle.wire.specs.Choose.{choose}
-use Rattle.wire.specs.Faults.{looks, varint_fault, plain_fault, nowhere}
+use Rattle.wire.specs.Faults.{varint_fault, plain_fault, nowhere}
 use Rattle.wire.specs.Numbers.{number_of}
 use Rattle.wire.specs.VarintLaws.{Bytes}
 use Rattle.wire.specs.Reading.{varint_at, capped_at, key_at, value_at, wire_of}
 use Rattle.wire.specs.Skipping.{past_number, past_payload, in_slice, past_at, repeats, skip_from, skip_at}
 use Rattle.wire.specs.declared.Fault.{Fault}
 use Rattle.wire.specs.declared.Refusal.{Refusal}
-use Rattle.wire.specs.declared.Refusal.TheVariants.{Truncated}
 use Rattle.wire.specs.declared.WireType.{WireType}
 use Rattle.wire.specs.declared.WireType.TheVariants.{Varint, LengthDelimited, ThirtyTwoBit, SixtyFourBit}
 use Rattle.wire.specs.declared.VarintFound.{VarintFound}
@@ -22,8 +20,9 @@ use Rattle.wire.specs.declared.ValueFound.{ValueFound}
 use Rattle.wire.specs.declared.ValueFound.TheVariants as value_found
 use Rattle.wire.specs.declared.Reached.{Reached}
 use Rattle.wire.specs.declared.Reached.TheVariants as reached
-use Rattle.fault.specs.Fault.{begun_by, key_fault}
-use Rattle.fault.specs.Inside.{Blamed, key-blamed, value-blamed}
+use Rattle.fault.specs.Fault.{key_fault}
+use Rattle.fault.specs.Inside.{Blamed}
+use Rattle.fault.proofs.Inside.{key-blamed, value-blamed}
 use Rattle.fault.specs.Short.{KeyFails, varint, tag, key-fails, value-number, refused-capped, varint-number}
 use Rattle.field_skip.specs.Repeated.{past-slice, differs}
 use Rattle.field_skip.specs.SkippingLaws.{past-moves, skip-refused, skip-ends, skip_goes_on}

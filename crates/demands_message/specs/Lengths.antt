@@ -8,9 +8,10 @@ use Rattle.std.proofs.lemmas.Bool.{lt-leb}
 use Rattle.std.proofs.Math.Dec.{leb}
 use Rattle.wire.specs.Numbers.{number_of}
 use Rattle.wire.specs.Varint.{encode}
-use Rattle.wire.specs.VarintLength.{limit, limits, limit-at, limit-four, up_to, length-limits}
+use Rattle.wire.specs.VarintLength.{limit, limits, limit-at, limit-four, up_to}
+use Rattle.wire.proofs.VarintLength.{length-limits}
 use Rattle.wire.specs.Signed.{to_unsigned, to_signed, signed-unsigned, unsigned_signed}
-use Rattle.wire.specs.Types.{key-length}
+use Rattle.wire.proofs.Types.{key-length}
 use Rattle.wire.specs.declared.Refusal.TheVariants.{NoRoom, OutOfOrder}
 use Rattle.wire.specs.declared.WireType.{WireType}
 use Rattle.entry_answer.specs.Told.{Number, put_told, key_len_told}

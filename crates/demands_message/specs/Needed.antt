@@ -57,7 +57,7 @@ pub record Sizes (n : ℕ) (o : Wrote) : Type 0 where
 
 -- ---- what the two writers have in common: what is told of a plan. A message of n bytes in a buffer of `room` starts at `from room n`
 
-abbrev told : Writing → Wrote
+abbrev pub told : Writing → Wrote
 told o = written_told o.answer
 
 pub record Tells (write : List ℕ → Plan → Writing) (from : ℕ → ℕ → ℕ) : Type 0 where
@@ -66,7 +66,7 @@ pub record Tells (write : List ℕ → Plan → Writing) (from : ℕ → ℕ →
   pub refuses : (b : List ℕ) (r : Refusal) (i : ℕ) → told (write b (Refuses r i)) ≡ wrote (number_of r) i 0
   pub first : (n : ℕ) → from 0 n ≡ 0
 
-front-tells : Tells front (λ room n. 0)
+pub front-tells : Tells front (λ room n. 0)
 unfolding front
 front-tells =
     record {
@@ -76,7 +76,7 @@ front-tells =
       first = λ n. refl;
     }
 
-back-tells : Tells back (λ room n. room - n)
+pub back-tells : Tells back (λ room n. room - n)
 unfolding back
 back-tells =
     record {
@@ -86,18 +86,18 @@ back-tells =
       first = λ n. omega arith;
     }
 
-abbrev length_of : Plan → ℕ
+abbrev pub length_of : Plan → ℕ
 length_of (Writes bs) = length bs
 length_of (Refuses r i) = 0
 
 module _ {write : List ℕ → Plan → Writing} {from : ℕ → ℕ → ℕ} (w : Tells write from) where
-  needs : (b bs : List ℕ) {p : Plan} → p ≡ Writes bs → Needs (length bs) (length b) (from (length b) (length bs)) (told (write b p))
+  pub needs : (b bs : List ℕ) {p : Plan} → p ≡ Writes bs → Needs (length bs) (length b) (from (length b) (length bs)) (told (write b p))
   needs b bs e =
       subst (λ (p : Plan). Needs (length bs) (length b) (from (length b) (length bs)) (told (write b p))) (sym e)
       (record { fits = w.fits b bs; none = w.none b bs })
 
   -- NoRoom is told of bytes that are more than the buffer has, and of nothing else
-  short : (b : List ℕ) (p : Plan) → ((r : Refusal) (i : ℕ) → p ≡ Refuses r i → number_of r ≡ number_of NoRoom → ⊥)
+  pub short : (b : List ℕ) (p : Plan) → ((r : Refusal) (i : ℕ) → p ≡ Refuses r i → number_of r ≡ number_of NoRoom → ⊥)
       → (told (write b p)).number ≡ number_of NoRoom → (bs : List ℕ) × (p ≡ Writes bs) × (length b < length bs)
   short b (Refuses r i) other z = absurd (other r i refl (sym (ap (λ (o : Wrote). o.number) (w.refuses b r i)) ∙ z))
   short b (Writes bs) other z = go (leb (length bs) (length b)) refl
@@ -107,7 +107,7 @@ module _ {write : List ℕ → Plan → Writing} {from : ℕ → ℕ → ℕ} (w
       go false x = (bs, refl, leb-false (length bs) (length b) x)
 
   -- the length is told, whatever the buffer
-  tells-length : (b : List ℕ) (p : Plan) → (told (write b p)).length ≡ length_of p
+  pub tells-length : (b : List ℕ) (p : Plan) → (told (write b p)).length ≡ length_of p
   tells-length b (Refuses r i) = ap (λ (o : Wrote). o.length) (w.refuses b r i)
   tells-length b (Writes bs) = go (leb (length bs) (length b)) refl
     where
@@ -115,7 +115,7 @@ module _ {write : List ℕ → Plan → Writing} {from : ℕ → ℕ → ℕ} (w
       go true x = ap (λ (o : Wrote). o.length) (w.fits b bs (leb-true (length bs) (length b) x))
       go false x = ap (λ (o : Wrote). o.length) (w.none b bs (leb-false (length bs) (length b) x))
 
-  others : (b : List ℕ) (p : Plan) → ((told (write b p)).number ≡ 0 → ⊥) → ((told (write b p)).number ≡ number_of NoRoom → ⊥) → (told (write b p)).length ≡ 0
+  pub others : (b : List ℕ) (p : Plan) → ((told (write b p)).number ≡ 0 → ⊥) → ((told (write b p)).number ≡ number_of NoRoom → ⊥) → (told (write b p)).length ≡ 0
   others b (Refuses r i) x y = ap (λ (o : Wrote). o.length) (w.refuses b r i)
   others b (Writes bs) x y = go (leb (length bs) (length b)) refl
     where
@@ -125,91 +125,14 @@ module _ {write : List ℕ → Plan → Writing} {from : ℕ → ℕ → ℕ} (w
 
 -- ---- the same records again
 
-same-plan : {s t u v : List ℕ} {c d : ℕ} → u ≡ s → v ≡ t → d ≡ c → plan message_limit u v d ≡ plan message_limit s t c
+pub same-plan : {s t u v : List ℕ} {c d : ℕ} → u ≡ s → v ≡ t → d ≡ c → plan message_limit u v d ≡ plan message_limit s t c
 same-plan e f g = rw (e, f, g)
 
-encodes : {n : ℕ} {s t : List ℕ} {c : ℕ} (bs : List ℕ) → plan message_limit s t c ≡ Writes bs → n ≡ length bs
-    → Encodes (λ s' t' c' b o. s' ≡ s → t' ≡ t → c' ≡ c → Needs n (length b) 0 o)
-encodes bs e l κs a x st p f g h =
-    let b = a.1.1.1.0.now in
-    subst (λ (k : ℕ). Needs k (length b) 0 (written_told x)) (sym l)
-    (subst (Needs (length bs) (length b) 0) (sym (ap told p)) (needs front-tells b bs (same-plan f g h ∙ e)))
-
-prepends : {n : ℕ} {s t : List ℕ} {c : ℕ} (bs : List ℕ) → plan message_limit s t c ≡ Writes bs → n ≡ length bs
-    → Prepends (λ s' t' c' b o. s' ≡ s → t' ≡ t → c' ≡ c → Needs n (length b) (length b - n) o)
-prepends bs e l κs a x st p f g h =
-    let b = a.1.1.1.0.now in
-    subst (λ (k : ℕ). Needs k (length b) (length b - k) (written_told x)) (sym l)
-    (subst (Needs (length bs) (length b) (length b - length bs)) (sym (ap told p)) (needs back-tells b bs (same-plan f g h ∙ e)))
-
-zero-only : (n : ℕ) (o : Wrote) → (0 < n → o ≡ wrote (number_of NoRoom) 0 n) → o.number ≡ 0 → n ≡ 0
+pub zero-only : (n : ℕ) (o : Wrote) → (0 < n → o ≡ wrote (number_of NoRoom) 0 n) → o.number ≡ 0 → n ≡ 0
 zero-only n o h z = go (ltb 0 n) refl
   where
     go : (x : Bool) → ltb 0 n ≡ x → n ≡ 0
     go true x = absurd (omega (arith, sym (ap (λ (y : Wrote). y.number) (h (ltb-true 0 n x))) ∙ z))
     go false x = omega (arith, ltb-false 0 n x)
 
-module _ {write : List ℕ → Plan → Writing} {from : ℕ → ℕ → ℕ} (w : Tells write from) (s t : List ℕ) (c : ℕ) (b : List ℕ) (o : Wrote)
-    (q : o ≡ told (write b (plan message_limit s t c))) where
-  enough : o.number ≡ number_of NoRoom → Enough s t c (length b) o
-  enough z =
-      let m = short w b (plan message_limit s t c) (plan-why message_limit s t c) (sym (ap (λ (x : Wrote). x.number) q) ∙ z) in
-      let v = q ∙ ap (λ (p : Plan). told (write b p)) m.1 ∙ w.none b m.0 m.2 in
-      let l : o.length ≡ length m.0 = ap (λ (x : Wrote). x.length) v in
-      record {
-        start = ap (λ (x : Wrote). x.start) v;
-        more = omega (arith, l, m.2);
-        few = omega (arith, l, plan-short message_limit s t c m.0 m.1);
-        encoded = encodes m.0 m.1 l;
-        prepended = prepends m.0 m.1 l;
-      }
-
-  measures : checked message_limit s t c ≡ AllFine → length (message s t c) ≤ message_limit → length b ≡ 0 → Sizes (length (message s t c)) o
-  measures fine few none =
-      let bs = message s t c in
-      let k = needs w b bs (plan-fine message_limit s t c fine few) in
-      let full : 0 < length bs → o ≡ wrote (number_of NoRoom) 0 (length bs) = λ h. q ∙ k.none (omega (arith, none, h)) in
-      record {
-        nothing = λ h. q ∙ k.fits (omega (arith, h)) ∙ ap (λ (n : ℕ). wrote 0 (from n (length bs)) (length bs)) none
-            ∙ ap (λ (n : ℕ). wrote 0 n (length bs)) (w.first (length bs)) ∙ ap (wrote 0 0) h;
-        needed = full;
-        exactly = zero-only (length bs) o full;
-      }
-
-  other : (o.number ≡ 0 → ⊥) → (o.number ≡ number_of NoRoom → ⊥) → o.length ≡ 0
-  other =
-      subst (λ (x : Wrote). (x.number ≡ 0 → ⊥) → (x.number ≡ number_of NoRoom → ⊥) → x.length ≡ 0) (sym q)
-      (others w b (plan message_limit s t c))
-
 -- ---- OVER EVERY OUTCOME
-
--- NoRoom tells a length that is enough, for either writer, and that nothing less is
-pub needed-is-enough : Both (λ s t c b o. o.number ≡ number_of NoRoom → Enough s t c (length b) o)
-needed-is-enough = (
-  λ κs a x st p. enough front-tells a.0.now a.1.0.now a.1.1.0 a.1.1.1.0.now (written_told x) (ap told p),
-  λ κs a x st p. enough back-tells a.0.now a.1.0.now a.1.1.0 a.1.1.1.0.now (written_told x) (ap told p),
-)
-
--- of the same records both writers tell the same length, whatever their buffers, and whether it is needed or was written
-pub needed-both : Encodes (λ s t c b o. Prepends (λ s' t' c' b' o'. s' ≡ s → t' ≡ t → c' ≡ c → o'.length ≡ o.length))
-needed-both κs a x st p ls d y su q f g h =
-    ap (λ (o : Writing). (told o).length) q
-    ∙ tells-length back-tells d.1.1.1.0.now (plan message_limit d.0.now d.1.0.now d.1.1.0)
-    ∙ ap length_of (same-plan f g h)
-    ∙ sym (ap (λ (o : Writing). (told o).length) p
-    ∙ tells-length front-tells a.1.1.1.0.now (plan message_limit a.0.now a.1.0.now a.1.1.0))
-
--- of records that pass every test, a buffer of no bytes is told the length, and 0 exactly if nothing is to be written
-pub no-buffer-measures : Both (λ s t c b o. checked message_limit s t c ≡ AllFine → length (message s t c) ≤ message_limit → length b ≡ 0
-    → Sizes (length (message s t c)) o)
-no-buffer-measures = (
-  λ κs a x st p. measures front-tells a.0.now a.1.0.now a.1.1.0 a.1.1.1.0.now (written_told x) (ap told p),
-  λ κs a x st p. measures back-tells a.0.now a.1.0.now a.1.1.0 a.1.1.1.0.now (written_told x) (ap told p),
-)
-
--- no other refusal tells a length
-pub only-no-room-tells : Both (λ s t c b o. (o.number ≡ 0 → ⊥) → (o.number ≡ number_of NoRoom → ⊥) → o.length ≡ 0)
-only-no-room-tells = (
-  λ κs a x st p. other front-tells a.0.now a.1.0.now a.1.1.0 a.1.1.1.0.now (written_told x) (ap told p),
-  λ κs a x st p. other back-tells a.0.now a.1.0.now a.1.1.0 a.1.1.1.0.now (written_told x) (ap told p),
-)

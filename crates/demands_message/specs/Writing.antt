@@ -1,7 +1,7 @@
 -- The third demand, for writing: a message that was read whole into a table and is written from it, forwards or from the end, gives the same bytes
 -- back. Over every outcome that the contracts of `read_message`, `encode_message` and `prepend_message` allow.
 -- And the second, for writing: for every source, table, count and buffer, what is written is the list that the records stand for.
-use Rattle.std.specs.Prelude.{ℕ, ◌+◌, ◌-◌, ◌≤◌, ◌≡◌, refl, length, take, drop}
+use Rattle.std.specs.Prelude.{ℕ, ◌-◌, ◌≤◌, ◌≡◌, refl, length, take, drop}
 use Rattle.std.proofs.Common.{ap, ◌∙◌, arith}
 use mathlib.Core.List.{List, ◌++◌}
 use contract.Lifetimes.{Lfts}
@@ -12,7 +12,7 @@ use Rattle.wire.specs.Marks.{marks}
 use Rattle.wire.specs.Places.{items}
 use Rattle.wire.specs.Reading.{Message, Fields, read_message}
 use Rattle.wire.specs.Reading as reading
-use Rattle.wire.specs.Theorem.{accepted}
+use Rattle.wire.proofs.Theorem.{accepted}
 use Rattle.demands_order.specs.Formats.{refused-format}
 use Rattle.wire.specs.Table.{room, filled}
 use Rattle.write_record.specs.Records.{AllFine, checked}
@@ -72,13 +72,13 @@ abbrev pub at_end : List ℕ → List ℕ → Writing
 at_end bs b = record { answer = At (length b - length bs) (length bs); buf = take (length b - length bs) b ++ bs }
 
 module _ {s t : List ℕ} {c : ℕ} {b bs : List ℕ} (p : plan message_limit s t c ≡ Writes bs) (fits : length bs ≤ length b) where
-  encoded-as : (w : Encoded s t c b) → encodes w ≡ at_front bs b
+  pub encoded-as : (w : Encoded s t c b) → encodes w ≡ at_front bs b
   unfolding front
   encoded-as w =
       w.allowed
       ∙ rw (w.source, w.records, w.count, w.buffer) (into-writes b (λ (xs : List ℕ). at_front xs b) p fits)
 
-  prepended-as : (w : Prepended s t c b) → prepends w ≡ at_end bs b
+  pub prepended-as : (w : Prepended s t c b) → prepends w ≡ at_end bs b
   unfolding back
   prepended-as w =
       w.allowed
@@ -110,7 +110,7 @@ read-plan m t (reading.Refused q i) r u h e p z =
     let f = refused-format m 0 (length m) q i h in
     absurd (omega (arith, f.0, ap (λ (o : Outcome). (read_told o.answer).number) x))
 
-planned : (c : Call) → Whole c → (read_told (answer c)).number ≡ 0 → plan message_limit (message c) (left c) (read_told (answer c)).count ≡ Writes (message c)
+pub planned : (c : Call) → Whole c → (read_told (answer c)).number ≡ 0 → plan message_limit (message c) (left c) (read_told (answer c)).count ≡ Writes (message c)
 planned c w z =
     let m = message c in
     let t = table c in
@@ -124,10 +124,3 @@ planned c w z =
     let f : length fs ≤ room t = omega (arith, a.1, w.enough) in
     (f, table-plan m t fs w.bytes h f message_limit w.short (to-meant m (items m fs) a.0).bytes))
     z
-
-module _ (c : Call) (w : Whole c) (z : (read_told (answer c)).number ≡ 0) {b : List ℕ} (fits : length (message c) ≤ length b) where
-  pub forwards : (e : Encoded (message c) (left c) (read_told (answer c)).count b) → encodes e ≡ at_front (message c) b
-  forwards = encoded-as (planned c w z) fits
-
-  pub from-the-end : (e : Prepended (message c) (left c) (read_told (answer c)).count b) → prepends e ≡ at_end (message c) b
-  from-the-end = prepended-as (planned c w z) fits

@@ -14,7 +14,7 @@ use Rattle.write_message.specs.Writing.{plan}
 use Rattle.entry_answer.specs.Told.{read_told, written_told, inserted_told}
 use Rattle.c_words.specs.Words.{outcome_told, writing_told, insertion_told}
 use Rattle.demands_order.specs.Calls.{Every}
-use Rattle.demands_order.specs.Refusals.{Framed, InTable, InBuffer, Among, kept, put, into-table, front-buffer, back-buffer, insert-among}
+use Rattle.demands_order.specs.Refusals.{Framed, InTable, InBuffer, Among, kept, put, front-buffer, back-buffer, insert-among}
 use Rattle.place.proofs.put_part.Kinds as put-part
 use Rattle.place.proofs.put_part.Reads as put-part-reads
 use Rattle.place.proofs.put_fixed.Kinds as put-fixed
@@ -101,13 +101,6 @@ prepend-key-frame κs a x s p =
     subst (Before a.0.now a.1.0) (sym p) (put-before a.0.now a.1.0 (encode (4 * (a.1.1.1.0 - a.1.1.0) + kind_of a.1.1.1.1.0)))
 
 -- ---- tables
-
-pub read-into-frame : Every 2 read-into.ps read-into.r read-into-reads.Post
-    (λ κs a x s. InTable a.1.1.1.0.now (record { told = read_told x; lent = s.1.1.1.0.now }))
-read-into-frame κs a x s p =
-    let m = a.0.now in
-    let t = a.1.1.1.0.now in
-    subst (InTable t) (sym (ap outcome_told p)) (into-table m a.1.0 a.1.1.0 t (read_message m a.1.0 a.1.1.0) refl)
 
 pub write-front-frame : Every 3 write-front.ps write-front.r write-front-reads.Post
     (λ κs a x s. InBuffer a.1.1.1.1.0.now (record { told = written_told x; lent = s.1.1.1.1.0.now }))

@@ -79,7 +79,7 @@ use Rattle.demands_order.specs.Rules.{pick_order, pick_at_order, pick_early_orde
 use Rattle.demands_order.specs.Rules.{put_varint_order, put_key_order, key_len_order, write_order, insert_order, typed_order}
 use Rattle.demands_order.specs.RulesLaws.{above, behind, varint_number, key_number, value_number, step_number, message_number, reached_number, verdict_number}
 use Rattle.demands_order.specs.RulesLaws.{varint-told, capped-told, key-told, value-told, step-told, message-told, fields_read_lem, stop_number, Seen, stop-told}
-use Rattle.demands_order.specs.RulesLaws.{stop-seen, skip-told, order-t}
+use Rattle.demands_order.specs.RulesLaws.{stop-seen, skip-told}
 
 -- ---- ORDER R, of every reader: the gate, then what is met
 
@@ -195,10 +195,6 @@ read-message-order s a e t =
     order-r (λ (o : Outcome). (read_told o.answer).number) (λ r. outcome (read.Refused r 0 0 nowhere) t) (λ r. refl) s a e (read_into s a e t)
     (message_rules s a e ++ table_rules s a e t) (into-told s a e t)
 
-pub read-payload-order : (m : List ℕ) (r : Record) (t : List ℕ) → (read_told (read_payload m r t).answer).number ≡ first_of (read_payload_order m r t)
-unfolding read_payload
-read-payload-order m r t = let p = payload m r in read-message-order p 0 (length p) t
-
 counted-number : (m : Message) → (counted_told (counted m)).number ≡ message_number m
 counted-number (Fields fs) = refl
 counted-number (reading.Refused r p) = refl
@@ -311,69 +307,7 @@ key-len-order last tag = falls-told (λ (y : KeyLength). (key_len_told y).number
 
 -- ---- a message copied
 
-pub copy-message-order : (s t f b : List ℕ) → (copied_told (copied s t f b).answer).number ≡ first_of (copy_message_order s t f b)
-unfolding copied
-copy-message-order s t f b =
-    go (read_entry s 0 (length s) t).answer refl
-    ∙ behind (read_message_order s 0 (length s) t) (room_rules f s ++ room_rules b s) (read-message-order s 0 (length s) t) refl
-  where
-    go : (x : Read) → (read_entry s 0 (length s) t).answer ≡ x
-        → (copied_told (copied_by s t f b x (read_entry s 0 (length s) t).table).answer).number
-        ≡ or_else (read_told x).number (first_of (room_rules f s ++ room_rules b s))
-    go (read.Refused r p n x) e = sym (refused-first r _)
-    go (read.Accepted i n) e = fits (leb (length s) (length f)) refl (leb (length s) (length b)) refl
-      where
-        fits : (x : Bool) → leb (length s) (length f) ≡ x → (y : Bool) → leb (length s) (length b) ≡ y
-            → (copied_told (copied_by s t f b (read.Accepted i n) (read_entry s 0 (length s) t).table).answer).number ≡ first_of (room_rules f s ++ room_rules b s)
-        fits true x true y = rw (above (length s) (length f), above (length s) (length b), x, y)
-        fits true x false y = rw (above (length s) (length f), above (length s) (length b), x, y)
-        fits false x y z = rw (above (length s) (length f), x)
-
 -- ---- ORDER T
-
-module _ (s t : List ℕ) (c : ℕ) where
-  -- what is to be written
-  abbrev bytes : List ℕ
-  bytes = records.message s t c
-
-  module _ (b : List ℕ) (done : List ℕ → Writing) (sure : (bs : List ℕ) → (written_told (done bs).answer).number ≡ 0) where
-    write-told : (written_told (into b (plan message_limit s t c) done).answer).number ≡ first_of (write_order s t c b)
-    unfolding plan
-    write-told = go (checked message_limit s t c) ∙ order-t s t c _ (output_rule s t c ∷ room_rules b bytes) refl
-      where
-        go : (v : Verdict) → (written_told (into b (passed message_limit bytes v) done).answer).number
-            ≡ or_else (verdict_number v) (first_of (output_rule s t c ∷ room_rules b bytes))
-        go (First r i) = sym (refused-first r _)
-        go AllFine = short (leb (length bytes) message_limit) refl (leb (length bytes) (length b)) refl
-          where
-            short : (x : Bool) → leb (length bytes) message_limit ≡ x → (y : Bool) → leb (length bytes) (length b) ≡ y
-                → (written_told (into b (passed message_limit bytes AllFine) done).answer).number ≡ first_of (output_rule s t c ∷ room_rules b bytes)
-            short true x true y = rw (above (length bytes) message_limit, above (length bytes) (length b), x, y) (sure bytes)
-            short true x false y = rw (above (length bytes) message_limit, above (length bytes) (length b), x, y)
-            short false x y h = rw (above (length bytes) message_limit, x)
-
-  pub insert-order : (r : Record) → (inserted_told (inserts t c r (aim message_limit s t c r)).answer).number ≡ first_of (insert_order s t c r)
-  unfolding inserts aim
-  insert-order r = go (checked message_limit s t c) ∙ order-t s t c _ (new_rules s t c r) refl
-    where
-      go : (v : Verdict) → (inserted_told (inserts t c r (aimed (length s) t c r v)).answer).number
-          ≡ or_else (verdict_number v) (first_of (new_rules s t c r))
-      go (First why i) = sym (refused-first why _)
-      go AllFine = fits (good (length s) r) refl (eqb c (room t)) refl
-        where
-          fits : (x : Bool) → good (length s) r ≡ x → (y : Bool) → eqb c (room t) ≡ y
-              → (inserted_told (inserts t c r (aimed (length s) t c r AllFine)).answer).number ≡ first_of (new_rules s t c r)
-          fits true x true y = rw (x, y)
-          fits true x false y = rw (x, y)
-          fits false x y h = rw x
-
-pub encode-message-order : (s t : List ℕ) (c : ℕ) (b : List ℕ) → (written_told (encode_message s t c b).answer).number ≡ first_of (write_order s t c b)
-unfolding front
-encode-message-order s t c b = write-told s t c b _ (λ bs. refl)
-
-pub prepend-message-order : (s t : List ℕ) (c : ℕ) (b : List ℕ) → (written_told (prepend_message s t c b).answer).number ≡ first_of (write_order s t c b)
-unfolding back
-prepend-message-order s t c b = write-told s t c b _ (λ bs. refl)
 
 -- ---- for C
 

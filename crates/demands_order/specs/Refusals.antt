@@ -11,7 +11,8 @@ use Rattle.std.proofs.Math.ListN.{length}
 use Rattle.std.proofs.Math.Seq.{drop-length}
 use Rattle.wire.specs.Faults.{nowhere}
 use Rattle.wire.specs.Limits.{message_limit, record_words}
-use Rattle.wire.specs.Marks.{marks, marks-count}
+use Rattle.wire.specs.Marks.{marks}
+use Rattle.wire.proofs.Marks.{marks-count}
 use Rattle.wire.specs.Varint.{encode}
 use Rattle.wire.specs.Places.{part}
 use Rattle.wire.specs.Reading.{Message, Fields, read_message}
@@ -152,7 +153,7 @@ put p q b xs e h =
 pub put_front : (b xs : List ℕ) (q : ℕ) → length xs ≡ q → q ≤ length b → Framed 0 0 q b (xs ++ drop q b)
 put_front b xs q e h = put 0 q b xs (omega arith) h
 
-put-end : (b xs : List ℕ) (p q : ℕ) → p ≡ length b - length xs → q ≡ length b → length xs ≤ length b → Framed 0 p q b (take (length b - length xs) b ++ xs)
+pub put-end : (b xs : List ℕ) (p q : ℕ) → p ≡ length b - length xs → q ≡ length b → length xs ≤ length b → Framed 0 p q b (take (length b - length xs) b ++ xs)
 put-end b xs p q d e h =
     let m = length b - length xs in
     let w = put m (length b) b xs (omega arith) (omega arith) in
@@ -213,31 +214,6 @@ unfolding key_stored
 typed-end b f h (Is w) = h w
 typed-end b f h Unknown = kept _ _ _ b
 
-module _ (s : List ℕ) (a e : ℕ) (t : List ℕ) where
-  pub into-table : (m : Message) → read_message s a e ≡ m → InTable t (outcome_told (read_into s a e t))
-  into-table (reading.Refused r p) h = rw (into-refused s a e t r p h) (kept _ _ _ t)
-  into-table (Fields fs) h = go (leb (length fs) (room t)) refl
-    where
-      go : (x : Bool) → leb (length fs) (room t) ≡ x → InTable t (outcome_told (read_into s a e t))
-      go true x =
-          let g = leb-true (length fs) (room t) x in
-          let ms = marks s a e in
-          let c = marks-count s a e fs h in
-          rw (into-fits s a e t fs h g, ← c) (put_front t (records ms) (record_words * length ms) (length-records ms) (omega (arith, c)))
-      go false x = rw (into-no-room s a e t fs h (leb-false (length fs) (room t) x)) (kept _ _ _ t)
-
-  entry-table : InTable t (outcome_told (read_entry s a e t))
-  unfolding read_entry
-  entry-table = go (gated (length s) a e)
-    where
-      go : (g : Gated) → InTable t (outcome_told (through g (λ r. outcome (read.Refused r 0 0 nowhere) t) (read_into s a e t)))
-      go Open = into-table (read_message s a e) refl
-      go (Shut r) = kept _ _ _ t
-
-payload-table : (m : List ℕ) (r : Record) (t : List ℕ) → InTable t (outcome_told (read_payload m r t))
-unfolding read_payload
-payload-table m r t = entry-table (payload m r) 0 (length (payload m r)) t
-
 module _ (b : List ℕ) where
   into-buffer : (done : List ℕ → Writing) → ((bs : List ℕ) → length bs ≤ length b → InBuffer b (writing_told (done bs))) → (p : Plan)
       → InBuffer b (writing_told (into b p done))
@@ -291,29 +267,6 @@ levels-in s t = go (judge (opened s) (entered s))
             (omega (arith, leb-true (length r.levels) (level_room t) x)))
         fits false x = rw x (kept _ _ _ t)
 
-copied_all : (s t f b : List ℕ) → InAll s t f b (copied s t f b)
-unfolding copied
-copied_all s t f b = go (read_entry s 0 (length s) t).answer refl
-  where
-    same : {n : ℕ} {m : ℕ} {k : ℕ} → Framed n 0 m t t × Framed n 0 (length s) f f × Framed n (length b - length s) k b b
-    same = (kept _ _ _ t, kept _ _ _ f, kept _ _ _ b)
-
-    go : (x : Read) → (read_entry s 0 (length s) t).answer ≡ x
-        → InAll s t f b (copied_by s t f b (read_entry s 0 (length s) t).answer (read_entry s 0 (length s) t).table)
-    go (read.Refused r p n x) e = rw e same
-    go (read.Accepted i n) e = rw e (fits (leb (length s) (length f)) refl (leb (length s) (length b)) refl)
-      where
-        fits : (x : Bool) → leb (length s) (length f) ≡ x → (y : Bool) → leb (length s) (length b) ≡ y
-            → InAll s t f b (copied_by s t f b (read.Accepted i n) (read_entry s 0 (length s) t).table)
-        fits true x true y =
-            rw (x, y) (
-              rw e at (entry-table s 0 (length s) t),
-              put_front f s (length s) refl (leb-true (length s) (length f) x),
-              put-end b s _ _ refl refl (leb-true (length s) (length b) y),
-            )
-        fits true x false y = rw (x, y) same
-        fits false x y z = rw x same
-
 -- ---- EVERY ENTRY THAT IS LENT SOMETHING TO WRITE TO
 
 pub encode-varint-frame : Every 1 encode-varint.ps encode-varint.r encode-varint-reads.Post
@@ -331,15 +284,6 @@ encode-key-frame κs a x s p = subst (AtFront a.1.1.1.0.now) (sym (ap stored_tol
 pub prepend-key-frame : Every 1 prepend-key.ps prepend-key.r prepend-key-reads.Post
     (λ κs a x s. AtEnd a.1.1.1.0.now (record { told = put_told x; lent = s.1.1.1.0.now }))
 prepend-key-frame κs a x s p = subst (AtEnd a.1.1.1.0.now) (sym (ap stored_told p)) (key-end a.1.1.1.0.now a.0 a.1.0 a.1.1.0)
-
-pub read-message-frame : Every 2 read-message.ps read-message.r read-message-reads.Post
-    (λ κs a x s. InTable a.1.1.1.0.now (record { told = read_told x; lent = s.1.1.1.0.now }))
-read-message-frame κs a x s p =
-    subst (InTable a.1.1.1.0.now) (sym (ap outcome_told p)) (entry-table a.0.now a.1.0 a.1.1.0 a.1.1.1.0.now)
-
-pub read-payload-frame : Every 2 read-payload.ps read-payload.r read-payload-reads.Post
-    (λ κs a x s. InTable a.1.1.0.now (record { told = read_told x; lent = s.1.1.0.now }))
-read-payload-frame κs a x s p = subst (InTable a.1.1.0.now) (sym (ap outcome_told p)) (payload-table a.0.now a.1.0 a.1.1.0.now)
 
 pub encode-message-frame : Every 3 encode-message.ps encode-message.r encode-message-reads.Post
     (λ κs a x s. InBuffer a.1.1.1.0.now (record { told = written_told x; lent = s.1.1.1.0.now }))
@@ -365,16 +309,6 @@ pub read-sounding-frame : Every 2 read-sounding.ps read-sounding.r read-sounding
     (λ κs a x s. InLevels a.1.0.now (record { told = sounding_told x; lent = s.1.0.now }))
 read-sounding-frame κs a x s p = subst (InLevels a.1.0.now) (sym (ap levels_told p)) (levels-in a.0.now a.1.0.now)
 
-pub copy-message-frame : Every 4 copy-message.ps copy-message.r copy-message-reads.Post
-    (λ κs a x s. InAll a.0.now a.1.0.now a.1.1.0.now a.1.1.1.0.now
-    (record { answer = x; table = s.1.0.now; front = s.1.1.0.now; back = s.1.1.1.0.now }))
-copy-message-frame κs a x s p =
-    let m = a.0.now in
-    let t = a.1.0.now in
-    let f = a.1.1.0.now in
-    let b = a.1.1.1.0.now in
-    subst (InAll m t f b) (sym p) (copied_all m t f b)
-
 -- ---- EVERY EXPORT TO C THAT IS LENT SOMETHING TO WRITE TO
 
 pub c-encode-varint-frame : Every 1 c-encode-varint.ps c-encode-varint.r c-encode-varint-reads.Post
@@ -396,17 +330,6 @@ pub c-prepend-key-frame : Every 1 c-prepend-key.ps c-prepend-key.r c-prepend-key
 c-prepend-key-frame κs a x s p =
     let b = a.1.1.1.0.now in
     subst (AtEnd b) (sym p) (typed-end b (key_at_end b a.0 a.1.0) (key-end b a.0 a.1.0) (typed_of a.1.1.0))
-
-pub c-read-message-frame : Every 2 c-read-message.ps c-read-message.r c-read-message-reads.Post
-    (λ κs a x s. InTable a.1.1.1.0.now (record { told = as_read x; lent = s.1.1.1.0.now }))
-c-read-message-frame κs a x s p =
-    subst (InTable a.1.1.1.0.now) (sym p) (entry-table a.0.now a.1.0 a.1.1.0 a.1.1.1.0.now)
-
-pub c-read-payload-frame : Every 2 c-read-payload.ps c-read-payload.r c-read-payload-reads.Post
-    (λ κs a x s. InTable a.1.1.1.1.1.1.0.now (record { told = as_read x; lent = s.1.1.1.1.1.1.0.now }))
-c-read-payload-frame κs a x s p =
-    let t = a.1.1.1.1.1.1.0.now in
-    subst (InTable t) (sym p) (payload-table a.0.now (five_words a.1.0 a.1.1.0 a.1.1.1.0 a.1.1.1.1.0 a.1.1.1.1.1.0) t)
 
 pub c-encode-message-frame : Every 3 c-encode-message.ps c-encode-message.r c-encode-message-reads.Post
     (λ κs a x s. InBuffer a.1.1.1.0.now (record { told = as_written x; lent = s.1.1.1.0.now }))

@@ -356,7 +356,7 @@ skip-told (suc k) s e p w =
 
 -- ---- records
 
-judge-told : (n : ℕ) (t : List ℕ) (i : ℕ) → verdict_number (and_then AllFine (judge n (tag_before t i) (record_at t i)) i)
+pub judge-told : (n : ℕ) (t : List ℕ) (i : ℕ) → verdict_number (and_then AllFine (judge n (tag_before t i) (record_at t i)) i)
     ≡ first_of (record_rules n t i)
 unfolding judge
 judge-told n t i = go (good n (record_at t i)) refl (leb (tag_before t i) (record_at t i).tag) refl
@@ -368,23 +368,7 @@ judge-told n t i = go (good n (record_at t i)) refl (leb (tag_before t i) (recor
     go true a false b = rw (above (tag_before t i) (record_at t i).tag, a, b)
     go false a b h = rw a
 
-then-number : (v : Verdict) (j : Judged) (i : ℕ) → verdict_number (and_then v j i) ≡ or_else (verdict_number v) (verdict_number (and_then AllFine j i))
+pub then-number : (v : Verdict) (j : Judged) (i : ℕ) → verdict_number (and_then v j i) ≡ or_else (verdict_number v) (verdict_number (and_then AllFine j i))
 then-number AllFine j i = refl
 then-number (First r k) Fine i = sym (refused-first r _)
 then-number (First r k) (Bad q) i = sym (refused-first r _)
-
-records-told : (c n : ℕ) (t : List ℕ) → verdict_number (tested c n t) ≡ first_of (records_rules c n t)
-records-told zero n t = refl
-records-told (suc i) n t = then-number (tested i n t) _ i ∙ behind (records_rules i n t) (record_rules n t i) (records-told i n t) (judge-told n t i)
-
--- the tests of order T, and what comes behind them
-pub order-t : (s t : List ℕ) (c n : ℕ) (rest : List Rule) → n ≡ first_of rest
-    → or_else (verdict_number (checked message_limit s t c)) n ≡ first_of (order_t s t c rest)
-unfolding checked
-order-t s t c n rest h = go (leb (length s) message_limit) refl (leb c (room t)) refl
-  where
-    go : (a : Bool) → leb (length s) message_limit ≡ a → (b : Bool) → leb c (room t) ≡ b
-        → or_else (verdict_number (checked message_limit s t c)) n ≡ first_of (order_t s t c rest)
-    go true a true b = rw (above (length s) message_limit, above c (room t), a, b) (behind (records_rules c (length s) t) rest (records-told c (length s) t) h)
-    go true a false b = rw (above (length s) message_limit, above c (room t), a, b)
-    go false a b x = rw (above (length s) message_limit, a)

@@ -22,10 +22,8 @@ use Rattle.demands_order.specs.Rules.{put_varint_order, put_key_order, key_len_o
 pub use Rattle.demands_order.specs.Entries.{order-r}
 use Rattle.demands_order.specs.Entries.{decode-varint-order, decode-varint-capped-order, decode-key-order, decode-value-order, skip-field-order}
 use Rattle.demands_order.specs.Entries.{step-at-order, more-at-order}
-use Rattle.demands_order.specs.Entries.{read-message-order, read-payload-order, count-fields-order, pick-at-order, pick-order, pick-early-order}
-use Rattle.demands_order.specs.Entries.{copy-message-order}
+use Rattle.demands_order.specs.Entries.{read-message-order, count-fields-order, pick-at-order, pick-order, pick-early-order}
 use Rattle.demands_order.specs.Entries.{stored_number, encode-varint-order, prepend-varint-order, encode-key-order, prepend-key-order, key-len-order}
-use Rattle.demands_order.specs.Entries.{encode-message-order, prepend-message-order, insert-order}
 use Rattle.entry_varint.proofs.decode_varint.Kinds as decode-varint
 use Rattle.entry_varint.proofs.decode_varint.Reads as decode-varint-reads
 use Rattle.entry_varint.proofs.decode_varint_capped.Kinds as decode-varint-capped
@@ -66,7 +64,7 @@ use Rattle.entry_write.proofs.prepend_message.Kinds as prepend-message
 use Rattle.entry_write.proofs.prepend_message.Reads as prepend-message-reads
 use Rattle.entry_write.proofs.insert.Kinds as insert
 use Rattle.entry_write.proofs.insert.Reads as insert-reads
-use Rattle.entry_reader.proofs.step_through.Kinds as step_Through
+use Rattle.entry_reader.proofs.step_through.Kinds as step-through
 use Rattle.entry_reader.proofs.step_through.Reads as step-through-reads
 use Rattle.entry_reader.proofs.count_fields.Kinds as count-fields
 use Rattle.entry_reader.proofs.count_fields.Reads as count-fields-reads
@@ -116,7 +114,7 @@ pub take-step-number : (r : Reader) (x : Step) → Stepped r x
 take-step-number r x p =
     by_order (λ y. (step_told r.place r.last y).number) p (step-at-order r.place r.last r.message.now r.place r.end r.last)
 
-pub step-through-number : Numbered 1 step_Through.ps step_Through.r step-through-reads.Post (λ κs x. (step_told 0 0 x).number)
+pub step-through-number : Numbered 1 step-through.ps step-through.r step-through-reads.Post (λ κs x. (step_told 0 0 x).number)
     (λ κs a. step_at_order a.0.now a.1.0 a.1.1.0 a.1.1.1.0)
 step-through-number κs a x s p = by_order (λ y. (step_told 0 0 y).number) p (step-at-order 0 0 a.0.now a.1.0 a.1.1.0 a.1.1.1.0)
 
@@ -125,15 +123,6 @@ pub count-fields-number : Numbered 1 count-fields.ps count-fields.r count-fields
 count-fields-number κs a x s p = by_order (λ y. (counted_told y).number) p (count-fields-order a.0.now a.1.0 a.1.1.0)
 
 -- ---- messages
-
-pub read-message-number : Numbered 2 read-message.ps read-message.r read-message-reads.Post (λ κs x. (read_told x).number)
-    (λ κs a. read_message_order a.0.now a.1.0 a.1.1.0 a.1.1.1.0.now)
-read-message-number κs a x s p =
-    by_order (λ (o : Outcome). (read_told o.answer).number) p (read-message-order a.0.now a.1.0 a.1.1.0 a.1.1.1.0.now)
-
-pub read-payload-number : Numbered 2 read-payload.ps read-payload.r read-payload-reads.Post (λ κs x. (read_told x).number)
-    (λ κs a. read_payload_order a.0.now a.1.0 a.1.1.0.now)
-read-payload-number κs a x s p = by_order (λ (o : Outcome). (read_told o.answer).number) p (read-payload-order a.0.now a.1.0 a.1.1.0.now)
 
 pub pick-at-number : Numbered 1 pick_at.ps pick_at.r pick-at-reads.Post (λ κs x. (several_told x).number) (λ κs a. pick_at_order a.0.now)
 pick-at-number κs a x s p = by_order (λ y. (several_told y).number) p (pick-at-order a.0.now a.1.0 a.1.1.0)
@@ -144,11 +133,6 @@ pick-number κs a x s p = by_order (λ y. (picked_told y).number) p (pick-order 
 pub pick-early-number : Numbered 1 pick-early.ps pick-early.r pick-early-reads.Post (λ κs x. (early_told x).number)
     (λ κs a. pick_early_order a.0.now a.1.0)
 pick-early-number κs a x s p = by_order (λ y. (early_told y).number) p (pick-early-order a.0.now a.1.0)
-
-pub copy-message-number : Numbered 4 copy-message.ps copy-message.r copy-message-reads.Post (λ κs x. (copied_told x).number)
-    (λ κs a. copy_message_order a.0.now a.1.0.now a.1.1.0.now a.1.1.1.0.now)
-copy-message-number κs a x s p =
-    by_order (λ (o : Copying). (copied_told o.answer).number) p (copy-message-order a.0.now a.1.0.now a.1.1.0.now a.1.1.1.0.now)
 
 -- ---- bytes put
 
@@ -172,18 +156,3 @@ pub key-len-number : Numbered 0 key-len.ps key-len.r key-len-reads.Post (λ κs 
 key-len-number κs a x s p = by_order (λ y. (key_len_told y).number) p (key-len-order a.0 a.1.0)
 
 -- ---- records written, inserted
-
-pub encode-message-number : Numbered 3 encode-message.ps encode-message.r encode-message-reads.Post (λ κs x. (written_told x).number)
-    (λ κs a. write_order a.0.now a.1.0.now a.1.1.0 a.1.1.1.0.now)
-encode-message-number κs a x s p =
-    by_order (λ (o : Writing). (written_told o.answer).number) p (encode-message-order a.0.now a.1.0.now a.1.1.0 a.1.1.1.0.now)
-
-pub prepend-message-number : Numbered 3 prepend-message.ps prepend-message.r prepend-message-reads.Post (λ κs x. (written_told x).number)
-    (λ κs a. write_order a.0.now a.1.0.now a.1.1.0 a.1.1.1.0.now)
-prepend-message-number κs a x s p =
-    by_order (λ (o : Writing). (written_told o.answer).number) p (prepend-message-order a.0.now a.1.0.now a.1.1.0 a.1.1.1.0.now)
-
-pub insert-number : Numbered 2 insert.ps insert.r insert-reads.Post (λ κs x. (inserted_told x).number)
-    (λ κs a. insert_order a.0.now a.1.0.now a.1.1.0 (stamped a.1.1.1.0))
-insert-number κs a x s p =
-    by_order (λ (o : Insertion). (inserted_told o.answer).number) p (insert-order a.0.now a.1.0.now a.1.1.0 (stamped a.1.1.1.0))

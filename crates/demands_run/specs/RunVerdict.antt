@@ -40,7 +40,7 @@ use Rattle.demands_index.specs.IndexRules.{behind_value}
 use Rattle.demands_run.specs.RunRules.{run_rules, whole_rules, run_count_order, values_of, run_table, read_run_order, of_record, of_records, out_rules, write_run_order}
 use Rattle.run_read.proofs.run_count.Kinds as run-count
 use Rattle.run_read.proofs.run_count.Reads as run-count-reads
-use Rattle.run_read.proofs.run_value.Kinds as run_value_lem
+use Rattle.run_read.proofs.run_value.Kinds as run-value
 use Rattle.run_read.proofs.run_value.Reads as run-value-reads
 use Rattle.run_read.proofs.read_run.Kinds as read-run
 use Rattle.run_read.proofs.read_run.Reads as read-run-reads
@@ -204,7 +204,7 @@ pub run-count-number : Numbered 1 run-count.ps run-count.r run-count-reads.Post 
     (λ κs a. run_count_order a.0.now a.1.0)
 run-count-number κs a x s p = by_order (λ y. (run_count_told y).number) p (run-count-order a.0.now a.1.0)
 
-pub run-value-number : Numbered 1 run_value_lem.ps run_value_lem.r run-value-reads.Post (λ κs x. (run_value_told x).number)
+pub run-value-number : Numbered 1 run-value.ps run-value.r run-value-reads.Post (λ κs x. (run_value_told x).number)
     (λ κs a. run_count_order a.0.now a.1.0)
 run-value-number κs a x s p = by_order (λ y. (run_value_told y).number) p (run-value-order a.0.now a.1.0 a.1.1.0)
 

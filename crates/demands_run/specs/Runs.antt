@@ -41,7 +41,7 @@ use Rattle.run_write.specs.Back.{run-table-plan, run-table-fine}
 use Rattle.demands_message.specs.Writing.{at_front}
 use Rattle.run_read.proofs.run_count.Kinds as run-count
 use Rattle.run_read.proofs.run_count.Reads as run-count-reads
-use Rattle.run_read.proofs.run_value.Kinds as run_value_lem
+use Rattle.run_read.proofs.run_value.Kinds as run-value
 use Rattle.run_read.proofs.run_value.Reads as run-value-reads
 use Rattle.run_read.proofs.read_run.Kinds as read-run
 use Rattle.run_read.proofs.read_run.Reads as read-run-reads
@@ -71,9 +71,9 @@ pub record RunCounted (m : List ℕ) (w : WireType) : Type 0 where
 
 pub record RunLooked (m : List ℕ) (w : WireType) (n : ℕ) : Type 0 where
   pub lifetimes : Lfts 1
-  pub arguments : Dens lifetimes run_value_lem.ps
-  pub answer : (res_t run_value_lem.r lifetimes).Denot
-  pub exit : AtExit (ended_of 1 run_value_lem.ps run_value_lem.r) lifetimes
+  pub arguments : Dens lifetimes run-value.ps
+  pub answer : (res_t run-value.r lifetimes).Denot
+  pub exit : AtExit (ended_of 1 run-value.ps run-value.r) lifetimes
   pub allowed : run-value-reads.Post lifetimes arguments answer exit
   pub run : arguments.0.now ≡ m
   pub wire : arguments.1.0 ≡ w

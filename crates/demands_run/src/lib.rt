@@ -1,1 +1,2 @@
 // Packed runs: theorems, no code.
+#![tactic(auto)]

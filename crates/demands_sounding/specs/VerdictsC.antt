@@ -1,7 +1,7 @@
 -- The first demand, which number exactly, for C: the first word of every answer of an export is told by the order of its entry. A wire type above 3 is 6
 -- before all else.
-use Rattle.std.specs.Prelude.{ℕ, ◌≡◌, refl, List}
-use Rattle.std.proofs.Common.{ap, ◌∙◌, subst, sym}
+use Rattle.std.specs.Prelude.{refl}
+use Rattle.std.proofs.Common.{ap, subst, sym}
 use Rattle.wire.specs.Table.{stamped}
 use Rattle.entry_answer.specs.Told as told
 use Rattle.entry_answer.specs.Told.{value_told, skipped_told}
@@ -16,12 +16,13 @@ use Rattle.demands_order.specs.Rules.{decode_varint_order, decode_varint_capped_
 use Rattle.demands_order.specs.Rules.{read_message_order, read_payload_order, pick_order, pick_at_order, pick_early_order}
 use Rattle.demands_order.specs.Rules.{put_varint_order, put_key_order, key_len_order, write_order, insert_order, typed_order}
 use Rattle.demands_order.specs.Entries.{decode-varint-order, decode-varint-capped-order, decode-key-order, decode-value-order, skip-field-order, step-at-order}
-use Rattle.demands_order.specs.Entries.{read-message-order, read-payload-order, pick-at-order, pick-order, pick-early-order}
+use Rattle.demands_order.specs.Entries.{read-message-order, pick-at-order, pick-order, pick-early-order}
+use Rattle.demands_order.proofs.Entries.{read-payload-order}
 use Rattle.demands_order.specs.Entries.{encode-varint-order, prepend-varint-order, encode-key-order, prepend-key-order, key-len-order}
-use Rattle.demands_order.specs.Entries.{encode-message-order, prepend-message-order, insert-order, typed-told}
+use Rattle.demands_order.specs.Entries.{typed-told}
+use Rattle.demands_order.proofs.Entries.{encode-message-order, prepend-message-order, insert-order}
 use Rattle.demands_order.specs.Verdicts.{by_order}
 use Rattle.demands_sounding.specs.SoundingRules.{read_sounding_order}
-use Rattle.demands_sounding.specs.SoundingVerdict.{read-sounding-number}
 use Rattle.capgauze_c.proofs.capgauze_decode_varint.Kinds as decode-varint
 use Rattle.capgauze_c.proofs.capgauze_decode_varint.Reads as decode-varint-reads
 use Rattle.capgauze_c.proofs.capgauze_decode_varint_capped.Kinds as decode-varint-capped
@@ -177,10 +178,3 @@ c-insert-number κs a x s p =
     (stamped (four_words a.1.1.1.0 a.1.1.1.1.0 a.1.1.1.1.1.0 a.1.1.1.1.1.1.0)))
 
 -- ---- soundings: as the entry's outcome that leaves the same levels
-
-pub c-read-sounding-number : Numbered 2 read-sounding.ps read-sounding.r read-sounding-reads.Post (λ κs x. x.number)
-    (λ κs a. read_sounding_order a.0.now a.1.0.now)
-c-read-sounding-number κs a x s p =
-    let o = read_sounding a.0.now a.1.0.now in
-    subst (Ordered (read_sounding_order a.0.now a.1.0.now)) (sym (ap (λ (l : Lent soundings.Heading). l.told.number) p))
-    (read-sounding-number κs a o.answer s (ap (λ (l : Lent soundings.Heading). outcome o.answer l.lent) p))

@@ -1,1 +1,2 @@
 // Soundings, and every export to C: theorems, no code.
+#![tactic(auto)]

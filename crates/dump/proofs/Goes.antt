@@ -5,16 +5,17 @@ use mathlib.Core.Bool.{Bool, true, false}
 use mathlib.Core.List.{List, [], ◌∷◌, append-nil}
 use native.Mathlib.Omega.{arith}
 use lib.ListN.{length, drop}
-use Rattle.text_lines.specs.Lines.{count_up, lines_of, Taking, take_line}
-use Rattle.text_lines.specs.LineLaws.{moves, Keeps, begun, lines-last}
+use Rattle.text_lines.specs.Lines.{count_up, Taking, take_line}
+use Rattle.text_lines.specs.LineLaws.{moves, Keeps, lines-last}
 use Rattle.text_lines.specs.declared.Taken.{Taken}
 use Rattle.text_lines.specs.declared.Taken.TheVariants.{Line, Part}
 use Rattle.text_frames.specs.Print.{frame_room, Printing, print_frame}
-use Rattle.text_frames.specs.PrintLaws.{print-inside, line-printed}
-use Rattle.text_frames.specs.DumpLaws.{Ready, Filled, fill_start, fill-line, fill-part}
+use Rattle.text_frames.proofs.PrintLaws.{print-inside, line-printed}
+use Rattle.text_frames.specs.DumpLaws.{Ready, Filled, fill_start}
+use Rattle.text_frames.proofs.DumpLaws.{fill-line, fill-part}
 use Rattle.stream_orders.specs.Counting.{counted}
 use Rattle.dump.specs.Verdict.{verdict_of}
-use Rattle.dump.specs.Fills.{Reports, Fills, Closing, Closed, Closes}
+use Rattle.dump.specs.Fills.{Reports, Fills, Closing, Closes}
 use Rattle.dump.specs.declared.State.{State}
 
 -- an answer by its case

@@ -3,7 +3,6 @@ use Rattle.std.specs.Prelude.{ℕ, ◌≡◌, List, length, take}
 use Rattle.wire.specs.Numbers.{number_of}
 use Rattle.wire.specs.declared.Read.{Read}
 use Rattle.wire.specs.declared.Read.TheVariants.{Accepted, Refused}
-use Rattle.wire.specs.declared.Refusal.{Refusal}
 use Rattle.message_table.specs.Into.{Outcome}
 use Rattle.entry_message.specs.Messages.{read_entry}
 use Rattle.text_hex.specs.Frame.{Framed, frame_of}

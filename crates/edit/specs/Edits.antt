@@ -2,10 +2,10 @@
 use Rattle.std.specs.Prelude.{ℕ, suc, ◌+◌, ◌-◌, ◌*◌, Bool, true, false, List, [], ◌∷◌, ◌++◌, ltb, leb, eqb, length, take, drop}
 use Rattle.std.proofs.lemmas.List.Edits.{sets}
 use Rattle.wire.specs.Choose.{choose}
-use Rattle.wire.specs.Limits.{message_limit, record_words, no_key}
+use Rattle.wire.specs.Limits.{message_limit, record_words}
 use Rattle.wire.specs.Places.{part}
 use Rattle.wire.specs.Table.{room, stamped}
-use Rattle.place.specs.Place.{Placed, put_at}
+use Rattle.place.specs.Place.{put_at}
 use Rattle.write_record.specs.Taken.{record_in}
 use Rattle.write_record.specs.Records.{Verdict, AllFine, First, checked}
 use Rattle.write_insertion.specs.Insertion.{Insertion, aim, inserts}

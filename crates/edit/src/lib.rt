@@ -1,4 +1,6 @@
 // Edits of a working copy: a table whose payloads lie in one lent room. A record taken out, a payload's bytes replaced, a payload put in.
+#![tactic(auto)]
+
 ghost use Rattle.std.specs.Prelude.{◌≡◌, [], ◌∷◌, ◌+◌, ◌*◌, ◌≤◌, ◌<◌, length, take, drop};
 ghost use Rattle.std.proofs.lemmas.List.Edits.{sets};
 ghost use Rattle.wire.specs.Limits.{record_words};

@@ -1,9 +1,9 @@
 -- Gaps between spans: bytes that lie in a gap overlap none of them.
-use Rattle.std.specs.Prelude.{ℕ, zero, suc, ◌+◌, ◌≤◌, ◌<◌, ◌≡◌, refl, Bool, true, false, ◌⊎◌, ltb, leb}
-use Rattle.std.proofs.Common.{ap, ◌∙◌, sym, inl, inr, arith, ltb-true, ltb-false, leb-true, leb-false, lt-ltb, le-ltb}
+use Rattle.std.specs.Prelude.{ℕ, zero, suc, ◌≤◌, ◌<◌, ◌≡◌, refl, Bool, true, false, ◌⊎◌, ltb, leb}
+use Rattle.std.proofs.Common.{ap, inl, inr, arith, ltb-true, ltb-false, leb-true, leb-false, lt-ltb, le-ltb}
 use Rattle.wire.specs.Choose.{choose}
 use Rattle.edit_live.specs.declared.Span.{Span}
-use Rattle.edit_live.specs.Spans.{end, no_span, meets, meets_any}
+use Rattle.edit_live.specs.Spans.{end, no_span, meets_any}
 use Rattle.edit_live.specs.SpanLaws.{Apart, meets-both, apart-any, meets_any_lem}
 
 -- the end of a gap in which bytes a lie, once span s is seen: 0 if they overlap

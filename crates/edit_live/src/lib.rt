@@ -1,5 +1,7 @@
 // A working copy's live payloads: records of a table that are payloads with bytes, over one lent room. Where each lies, whether two overlap, how many bytes
 // they leave, and which comes next in order of place. One record may be left out: `skip` is its index; where `skip` is at or past the count, none is.
+#![tactic(auto)]
+
 ghost use Rattle.std.specs.Prelude.{◌≡◌, ◌+◌, ◌-◌, ◌^◌, max, ◌≤◌, ◌<◌};
 ghost use Rattle.edit_live.specs.Spans.{end, span_in, meets_any, first_overlap, first_keyed, last_end, total, nearer, next_live};
 ghost use Rattle.edit_live.specs.Gaps.{narrowed, gap_end, Clear, Gap};
@@ -7,7 +9,7 @@ ghost use Rattle.edit_live.specs.Gaps.{narrowed, gap_end, Clear, Gap};
 use wire::NO_KEY;
 
 // Bytes of a room. A record that has none there has no bytes, at place 0.
-#[derive(Drop)]
+#[derive(Clone, Copy)]
 pub struct Span {
     pub start: usize,
     pub len: usize,

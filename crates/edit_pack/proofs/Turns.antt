@@ -6,20 +6,18 @@ use mathlib.Core.List.{List, [], ◌∷◌, ◌++◌}
 use mathlib.Core.Logic.{◌⊎◌, inl, inr}
 use native.Mathlib.Omega.{arith}
 use native.Mathlib.Numerals.{add-one}
-use borrow.Author.Tests.{lt-ltb, le-ltb}
 use lib.Dec.{eqb}
 use lib.ListN.{length, take, drop, get_or, set, length-set, length-drop}
 use lib.Seq.{sets, length-sets, get_or-set_other, get_or-drop, take-suc, length-take-le}
-use Rattle.wire.specs.Choose.{choose}
 use Rattle.wire.specs.Limits.{record_words}
 use Rattle.wire.specs.Table.{room}
 use Rattle.place.specs.Place.{put-behind}
 use Rattle.write_record.specs.Taken.{record_in}
 use Rattle.wire.specs.declared.Record.{Record}
-use Rattle.edit_live.specs.Spans.{end, span_in, nearer, next_live}
+use Rattle.edit_live.specs.Spans.{span_in, nearer, next_live}
 use Rattle.edit_live.specs.SpanLaws.{span-inside, Held, is_held, Least, Nothing, next-case}
 use Rattle.edit_live.specs.declared.Span.{Span}
-use Rattle.edit_pack.specs.Packing.{bytes_of, amended, Packed, pack_from, empty_at, cleared, cleared_of, packed}
+use Rattle.edit_pack.specs.Packing.{amended, pack_from, empty_at, cleared, cleared_of, packed}
 use Rattle.edit_pack.specs.Fence.{first_between, Fenced, First, first-is, first-yes, next-fenced, fence-on, fence-more}
 use Rattle.edit_pack.specs.Amending.{amend-span, amend-spans}
 use Rattle.edit_pack.specs.PackTable.{pack-turn, pack-stop, empty-other, empty-length, empty-row}

@@ -1,13 +1,13 @@
 -- One start amended in a table: that record's value word, and no other word.
-use Rattle.std.specs.Prelude.{ℕ, zero, suc, ◌+◌, ◌*◌, ◌≤◌, ◌<◌, ◌≡◌, refl, Bool, true, false, List, ltb, leb, length, get_or, set}
-use Rattle.std.proofs.Common.{ap, ◌∙◌, sym, arith, ltb-true, ltb-false, leb-true, leb-false, length-set, get_or-set_other}
+use Rattle.std.specs.Prelude.{ℕ, ◌+◌, ◌*◌, ◌≤◌, ◌<◌, ◌≡◌, refl, Bool, true, false, List, ltb, get_or}
+use Rattle.std.proofs.Common.{ap, ◌∙◌, sym, arith, ltb-true, ltb-false, length-set, get_or-set_other}
 use Rattle.std.proofs.Math.Seq.{get_or-set_same}
 use Rattle.wire.specs.Limits.{record_words}
 use Rattle.wire.specs.Table.{room, record_at}
-use Rattle.write_record.specs.Taken.{record_in, record-there, record-none, no_record}
+use Rattle.write_record.specs.Taken.{record_in, record-there, record-none}
 use Rattle.wire.specs.declared.Record.{Record}
-use Rattle.edit_live.specs.Spans.{end, no_span, span_of, span_in}
-use Rattle.edit_live.specs.SpanLaws.{span-live, span-skip, span-there, Live, Held}
+use Rattle.edit_live.specs.Spans.{span_of, span_in}
+use Rattle.edit_live.specs.SpanLaws.{span-live, span-there, Held}
 use Rattle.edit_live.specs.declared.Span.{Span}
 use Rattle.edit_pack.specs.Packing.{amended}
 

@@ -1,6 +1,6 @@
 -- Payloads that come in the order of their index up to a place, the fence: the next of them in order of place is the next by index.
-use Rattle.std.specs.Prelude.{ℕ, zero, suc, ◌+◌, ◌-◌, ◌≤◌, ◌<◌, ◌≡◌, refl, Bool, true, false, ◌⊎◌, ltb, leb}
-use Rattle.std.proofs.Common.{ap, ◌∙◌, sym, inl, inr, arith, add-one, ltb-true, ltb-false, leb-true, leb-false, le-leb}
+use Rattle.std.specs.Prelude.{ℕ, zero, suc, ◌+◌, ◌≤◌, ◌<◌, ◌≡◌, refl, Bool, true, false, ◌⊎◌, ltb, leb}
+use Rattle.std.proofs.Common.{ap, ◌∙◌, sym, inl, inr, arith, ltb-true, ltb-false, leb-true, leb-false, le-leb}
 use Rattle.std.proofs.lemmas.Bool.{lt-leb}
 use Rattle.wire.specs.Choose.{choose}
 use Rattle.edit_live.specs.Spans.{end, nearer, next_live}

@@ -1,11 +1,11 @@
 -- PACKING KEEPS EVERY PAYLOAD. Over spans by index that are apart: what holds as the loop goes, and the two closed forms at its end.
-use Rattle.std.specs.Prelude.{ℕ, zero, suc, ◌+◌, ◌-◌, ◌≤◌, ◌<◌, ◌≡◌, refl, Bool, true, false, List, [], ◌∷◌, ◌++◌, ◌⊎◌, ltb, leb, length, take, drop}
+use Rattle.std.specs.Prelude.{ℕ, zero, suc, ◌+◌, ◌-◌, ◌≤◌, ◌<◌, ◌≡◌, refl, Bool, true, false, List, [], ◌∷◌, ◌++◌, ◌⊎◌, ltb, length, take, drop}
 use Rattle.std.proofs.Math.Path.{ap}
-use Rattle.std.proofs.Common.{◌∙◌, sym, append_assoc, append-nil, arith, ltb-true, ltb-false, leb-true, leb-false, lt-ltb, le-ltb, take-append-drop, length-drop, length-take-le}
+use Rattle.std.proofs.Common.{◌∙◌, sym, append_assoc, append-nil, arith, ltb-true, ltb-false, lt-ltb, le-ltb, take-append-drop, length-drop, length-take-le}
 use Rattle.std.proofs.Math.Logic.{inl, inr}
 use Rattle.std.proofs.lemmas.List.Edits.{sets}
 use Rattle.std.proofs.Math.Seq.{length-sets}
-use Rattle.edit_live.specs.Spans.{end, total, Nearest, seek, next_live}
+use Rattle.edit_live.specs.Spans.{end, total, Nearest, next_live}
 use Rattle.edit_live.specs.SpanLaws.{same_or_not, Apart, apart-any-two, Least, Nothing, seek-same}
 use Rattle.edit_live.specs.declared.Span.{Span}
 use Rattle.edit_pack.specs.Packing.{bytes_of, ordered, joined, before}

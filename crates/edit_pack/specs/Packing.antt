@@ -1,5 +1,5 @@
 -- Packing: live payloads moved to the front of the room in order of place, and their starts amended.
-use Rattle.std.specs.Prelude.{ℕ, zero, suc, ◌+◌, ◌*◌, Bool, true, false, List, [], ◌∷◌, ◌++◌, ltb, eqb, length, take, drop, set}
+use Rattle.std.specs.Prelude.{ℕ, zero, suc, ◌+◌, ◌*◌, Bool, false, List, [], ◌∷◌, ◌++◌, ltb, eqb, length, take, drop, set}
 use Rattle.std.proofs.lemmas.List.Edits.{sets}
 use Rattle.wire.specs.Choose.{choose}
 use Rattle.wire.specs.Limits.{record_words}

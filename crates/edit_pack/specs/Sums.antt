@@ -1,6 +1,6 @@
 -- How many bytes start before a place: the sum grows by one span at a time, in order of place.
-use Rattle.std.specs.Prelude.{ℕ, zero, suc, ◌+◌, ◌≤◌, ◌<◌, ◌≡◌, refl, Bool, true, false, ◌⊎◌, ltb, leb}
-use Rattle.std.proofs.Common.{ap, ◌∙◌, sym, inl, inr, arith, ltb-true, ltb-false, leb-true, leb-false, lt-ltb, le-ltb}
+use Rattle.std.specs.Prelude.{ℕ, zero, suc, ◌+◌, ◌≤◌, ◌<◌, ◌≡◌, refl, Bool, true, false, ltb, leb}
+use Rattle.std.proofs.Common.{ap, inl, inr, arith, ltb-true, ltb-false, leb-true, leb-false, lt-ltb, le-ltb}
 use Rattle.wire.specs.Choose.{choose}
 use Rattle.edit_live.specs.Spans.{end, total}
 use Rattle.edit_live.specs.SpanLaws.{Apart, apart-any-two}

@@ -1,4 +1,6 @@
 // Live payloads packed at the front of their room in order of place, and their starts amended.
+#![tactic(auto)]
+
 ghost use Rattle.std.specs.Prelude.{◌≡◌, ◌+◌, ◌-◌, ◌≤◌, ◌<◌, length, take, drop};
 ghost use Rattle.std.proofs.lemmas.List.Edits.{sets};
 ghost use Rattle.wire.specs.Table.{room};
@@ -10,7 +12,7 @@ use edit_live::Span;
 use wire::RECORD_WORDS;
 
 // The index of a payload that is packed next, and how far the order of the table is that of the places behind it.
-#[derive(Drop)]
+#[derive(Clone, Copy)]
 struct Pick {
     next: usize,
     fence: usize,

@@ -1,53 +1,55 @@
 // What a caller is told: the answers of every entry, and what each reader tests first. What an answer is worth in numbers stands in specs/Told.
+#![tactic(auto)]
+
 ghost use Rattle.std.specs.Prelude.{◌≡◌};
 ghost use Rattle.entry_answer.specs.Gate.{gated};
 
 use wire::{Fault, Field, Key, Refusal, Value};
 
 // Whether a reader may read at all.
-#[derive(Drop)]
+#[derive(Clone, Copy)]
 pub enum Gated {
     Open,
     Shut(Refusal),
 }
 
 // The number of bytes put, or why none were.
-#[derive(Drop)]
+#[derive(Clone, Copy)]
 pub enum Put {
     Done(usize),
     Refused(Refusal),
 }
 
 // A number and the place after it, or a refusal, the place given and how many bytes were looked at.
-#[derive(Drop)]
+#[derive(Clone, Copy)]
 pub enum VarintRead {
     Got(u64, usize),
     Refused(Refusal, usize, usize),
 }
 
 // A key and the place after it, or a refusal, the place and the last tag given, and where the read failed.
-#[derive(Drop)]
+#[derive(Clone, Copy)]
 pub enum KeyRead {
     Got(Key, usize),
     Refused(Refusal, usize, u32, Fault),
 }
 
 // A value and the place after it, or a refusal, the place given, and where the read failed.
-#[derive(Drop)]
+#[derive(Clone, Copy)]
 pub enum ValueRead {
     Got(Value, usize),
     Refused(Refusal, usize, Fault),
 }
 
 // The place reached, or a refusal, the place given, and where the read failed.
-#[derive(Drop)]
+#[derive(Clone, Copy)]
 pub enum Skipped {
     To(usize),
     Refused(Refusal, usize, Fault),
 }
 
 // A field and the place after it, or the end, or a refusal, the place and the last tag given, and where the read failed.
-#[derive(Drop)]
+#[derive(Clone, Copy)]
 pub enum Step {
     Field(Field, usize),
     End,
@@ -55,14 +57,14 @@ pub enum Step {
 }
 
 // A length, or why there is none.
-#[derive(Drop)]
+#[derive(Clone, Copy)]
 pub enum KeyLength {
     Length(usize),
     Refused(Refusal),
 }
 
 // The only field of a tag, or that there is none, or why none is answered.
-#[derive(Drop)]
+#[derive(Clone, Copy)]
 pub enum Picked {
     Found(Field),
     Absent,
@@ -70,7 +72,7 @@ pub enum Picked {
 }
 
 // How many fields there are of a tag, and the one at a number or that there is none there; or why the message has none.
-#[derive(Drop)]
+#[derive(Clone, Copy)]
 pub enum Several {
     Found(usize, Field),
     Absent(usize),
@@ -78,7 +80,7 @@ pub enum Several {
 }
 
 // Whether a message goes on at a place: before its end, at it, or why not.
-#[derive(Drop)]
+#[derive(Clone, Copy)]
 pub enum More {
     Yes,
     No,
@@ -86,7 +88,7 @@ pub enum More {
 }
 
 // How many tags an index has, or why there is none.
-#[derive(Drop)]
+#[derive(Clone, Copy)]
 pub enum Indexed {
     Tags(usize),
     Refused(Refusal),
@@ -109,7 +111,7 @@ pub fn gate(len: usize, at: usize, end: usize) -> Gated
 }
 
 // Which message supplies a tag, the original or its correction, or that none does, or why none is answered.
-#[derive(Drop)]
+#[derive(Clone, Copy)]
 pub enum Supplier {
     Original,
     Correction,
@@ -118,14 +120,14 @@ pub enum Supplier {
 }
 
 // How many values a run has, or why there is none.
-#[derive(Drop)]
+#[derive(Clone, Copy)]
 pub enum RunCount {
     Values(usize),
     Refused(Refusal),
 }
 
 // The value of a run at a number, or that there is none there; or why the run is none.
-#[derive(Drop)]
+#[derive(Clone, Copy)]
 pub enum RunValue {
     Found(Value),
     Absent,

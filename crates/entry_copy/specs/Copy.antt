@@ -1,5 +1,5 @@
 -- What copying answers and leaves: a message that is accepted stands in the table, and its bytes stand in both buffers.
-use Rattle.std.specs.Prelude.{ℕ, ◌+◌, ◌-◌, ◌≤◌, ◌<◌, ◌≡◌, Bool, ◌⊎◌}
+use Rattle.std.specs.Prelude.{ℕ, ◌-◌, ◌≤◌, ◌<◌, ◌≡◌, Bool, ◌⊎◌}
 use Rattle.std.proofs.Math.Path.{refl, ap, sym}
 use Rattle.std.proofs.Common.{◌∙◌, inl, inr, arith}
 use Rattle.std.proofs.Math.Bool.{true, false}
@@ -14,7 +14,7 @@ use Rattle.wire.specs.VarintLaws.{Bytes}
 use Rattle.wire.specs.Places.{part}
 use Rattle.wire.specs.Reading.{Message, Fields, read_message}
 use Rattle.wire.specs.Reading as reading
-use Rattle.wire.specs.Theorem.{accepted}
+use Rattle.wire.proofs.Theorem.{accepted}
 use Rattle.wire.specs.Table.{room, filled}
 use Rattle.write_message.specs.Writing.{Writes, plan, Writing, front, back}
 use Rattle.write_message.specs.WritingLaws.{into-writes}

@@ -1,5 +1,7 @@
 // A message read whole into a table and written back from it, at the front of one buffer and at the end of another: that the bytes come back is what
 // the contract says.
+#![tactic(auto)]
+
 ghost use Rattle.std.specs.Prelude.{◌≡◌, length};
 ghost use Rattle.entry_reader.specs.Counting.{count_entry};
 ghost use Rattle.entry_copy.specs.Copy.{Copying, short_of, copied};
@@ -8,7 +10,7 @@ use entry_reader::Counted;
 use wire::{Read, Refusal};
 
 // The number of fields, or why nothing was copied.
-#[derive(Drop)]
+#[derive(Clone, Copy)]
 pub enum Copied {
     Fields(usize),
     Refused(Refusal),

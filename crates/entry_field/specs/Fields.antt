@@ -16,7 +16,8 @@ use Rattle.wire.specs.declared.Reached.TheVariants as reached
 use Rattle.wire.specs.declared.Stepped.{Stepped}
 use Rattle.wire.specs.declared.Stepped.TheVariants as stepped
 use Rattle.fault.specs.Fault.{value_fault, step_fault}
-use Rattle.fault.specs.Short.{value_short, value-short, fault_at, step-short}
+use Rattle.fault.specs.Short.{value_short, value-short, fault_at}
+use Rattle.fault.proofs.Short.{step-short}
 use Rattle.entry_answer.specs.Gate.{gated, through}
 use Rattle.entry_answer.specs.declared.ValueRead.{ValueRead}
 use Rattle.entry_answer.specs.declared.ValueRead.TheVariants as value_read

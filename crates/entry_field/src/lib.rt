@@ -1,4 +1,6 @@
 // The entries on values and single fields. Each tests its refusals in their order and hands the rest to a core.
+#![tactic(auto)]
+
 ghost use Rattle.std.specs.Prelude.{◌≡◌};
 ghost use Rattle.entry_field.specs.Fields.{decode_value, skip_field, step_entry};
 ghost use Rattle.entry_field.specs.Test.{more_entry};

@@ -1,4 +1,6 @@
 // The entries on keys. Each tests its refusals in their order and hands the rest to a core.
+#![tactic(auto)]
+
 ghost use Rattle.std.specs.Prelude.{◌≡◌};
 ghost use Rattle.entry_key.specs.Keys.{decode_key, key_at_front, key_at_end, key_len};
 

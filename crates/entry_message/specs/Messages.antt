@@ -104,25 +104,11 @@ picked_from (several_as.Found n f) = choose (eqb n 1) (picked_as.Found f) (picke
 picked_from (several_as.Absent n) = picked_as.Absent
 picked_from (several_as.Refused r) = picked_as.Refused r
 
-picked-only : (fs : List Field) → picked_of fs ≡ picked_from (several_of (at_number 0 fs))
+pub picked-only : (fs : List Field) → picked_of fs ≡ picked_from (several_of (at_number 0 fs))
 unfolding at_number
 picked-only [] = refl
 picked-only (f ∷ []) = refl
 picked-only (f ∷ g ∷ fs) = rw (ne_eqb (length (f ∷ g ∷ fs)) 1 (λ e. omega arith))
-
-picked-sought : (tag : ℕ) (m : Message) → picked tag m ≡ picked_from (several_of (sought tag 0 m))
-picked-sought tag (Fields fs) = picked-only (of_tag tag fs)
-picked-sought tag (reading.Refused r p) = refl
-
-pub picked-several : (s : List ℕ) (tag : ℕ) → pick_entry s tag ≡ picked_from (several_entry s tag 0)
-unfolding pick_entry several_entry
-picked-several s tag = go (gated (length s) 0 (length s))
-  where
-    go : (g : Gated)
-        → through g picked_as.Refused (picked tag (read_message s 0 (length s))) ≡ picked_from
-        (through g several_as.Refused (several_of (sought tag 0 (read_message s 0 (length s)))))
-    go Open = picked-sought tag (read_message s 0 (length s))
-    go (Shut r) = refl
 
 -- ---- pick from the front: where the search stops (rule P6), and what it answers (rules P7 and P8)
 

@@ -1,4 +1,6 @@
 // The entries on whole messages. Each tests its refusals in their order and hands the rest to a core.
+#![tactic(auto)]
+
 ghost use Rattle.std.specs.Prelude.{◌≡◌};
 ghost use Rattle.entry_message.specs.Messages.{part_of, read_entry, payload_part, read_payload, pick_entry, several_entry, early_entry};
 

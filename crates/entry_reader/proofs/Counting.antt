@@ -7,7 +7,7 @@ use native.Mathlib.Omega.{arith}
 use lib.ListN.{length, length-append}
 use Rattle.wire.specs.Faults.{nowhere}
 use Rattle.wire.specs.Reading.{step_at}
-use Rattle.wire.specs.ReadingLaws.{field-moves}
+use Rattle.wire.proofs.ReadingLaws.{field-moves}
 use Rattle.wire.specs.StepBack.{step_field}
 use Rattle.wire.specs.declared.Fault.{Fault}
 use Rattle.wire.specs.declared.Refusal.{Refusal}

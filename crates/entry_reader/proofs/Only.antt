@@ -8,7 +8,7 @@ use Rattle.entry_answer.specs.declared.Step.{Step}
 use Rattle.wire.specs.Only.{One}
 use Rattle.entry_reader.specs.Held.{Made, Tested, Stepped}
 use Rattle.entry_reader.specs.declared.Reader.{Reader}
-use Rattle.entry_reader.proofs.step_through.Kinds as step_Through
+use Rattle.entry_reader.proofs.step_through.Kinds as step-through
 use Rattle.entry_reader.proofs.step_through.Reads as step-through-reads
 use Rattle.entry_reader.proofs.count_fields.Kinds as count-fields
 use Rattle.entry_reader.proofs.count_fields.Reads as count-fields-reads
@@ -23,7 +23,7 @@ pub take-step-one : (r : Reader) (s t : Step) → Stepped r s → Stepped r t �
 take-step-one r s t p q = p ∙ sym q
 
 -- the two with plain parameters: over their contracts
-pub step-through-one : One 1 step_Through.ps step_Through.r step-through-reads.Post (λ κs r s. r)
+pub step-through-one : One 1 step-through.ps step-through.r step-through-reads.Post (λ κs r s. r)
 step-through-one κs a x y s t p q = p ∙ sym q
 
 pub count-fields-one : One 1 count-fields.ps count-fields.r count-fields-reads.Post (λ κs r s. r)

@@ -1,6 +1,8 @@
 // A reader that holds a message, its place and its end, with the last tag: `Capped` and `TagReader` of src/encoding/mod.rs of bilrost in
 // one struct. Three thin functions over the entries that take these as plain parameters; a step answers the place and the tag from which
 // the next reader is made. Above them two with plain parameters, for callers that hold no reader.
+#![tactic(auto)]
+
 ghost use Rattle.std.specs.Prelude.{◌≡◌};
 ghost use Rattle.entry_reader.specs.Counting.{count_entry};
 ghost use Rattle.entry_reader.specs.Held.{Made, Tested, StepOf, Stepped};
@@ -8,7 +10,7 @@ ghost use Rattle.entry_reader.specs.Held.{Made, Tested, StepOf, Stepped};
 use entry_answer::{More, Step};
 use wire::Refusal;
 
-#[derive(Drop)]
+#[derive(Clone, Copy)]
 pub struct Reader<'a> {
     pub message: &'a [u8],
     pub place: usize,
@@ -17,7 +19,7 @@ pub struct Reader<'a> {
 }
 
 // The number of fields, or why they are not counted.
-#[derive(Drop)]
+#[derive(Clone, Copy)]
 pub enum Counted {
     Fields(usize),
     Refused(Refusal),
@@ -49,7 +51,7 @@ pub fn take_step<'a>(r: Reader<'a>) -> Step
     entry_field::step_at(r.message, r.place, r.end, r.last)
 }
 
-// A step through a reader made for it. Its parameters are plain, so that a caller needs no walk.
+// A step through a reader made for it. Its parameters are plain, so that a caller holds no reader.
 pub fn step_through(message: &[u8], place: usize, end: usize, last: u32) -> Step
     ensures { StepOf message.now place end last result }
 {

@@ -1,4 +1,6 @@
 // The entries on varints. Each tests its refusals in their order and hands the rest to a core.
+#![tactic(auto)]
+
 ghost use Rattle.std.specs.Prelude.{◌≡◌};
 ghost use Rattle.wire.specs.Varint.{encode};
 ghost use Rattle.entry_answer.specs.Stores.{at_front, at_end};

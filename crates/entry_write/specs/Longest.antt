@@ -6,7 +6,7 @@ use Rattle.wire.specs.Limits.{message_limit, no_key}
 use Rattle.wire.specs.Table.{record_at, good_value, good_head, good, key-none}
 use Rattle.write_record.specs.Records.{judge, AllFine, checked, record_size, message}
 use Rattle.write_record.specs.RecordLaws.{good-sound, record-size, message-last}
-use Rattle.write_message.specs.Writing.{Plan, Writes, Refuses, plan, measured, front}
+use Rattle.write_message.specs.Writing.{Plan, Refuses, plan, measured, front}
 use Rattle.write_message.specs.WritingLaws.{checked-long, plan-first, plan-over, plan-fine, measured-writes, into-refuses}
 use Rattle.wire.specs.declared.Refusal.TheVariants.{TooLong}
 use Rattle.wire.specs.declared.Written.TheVariants.{At, Refused}

@@ -1,4 +1,6 @@
 // The entries that write messages and insert into tables. The limit is theirs; the tests are a core's.
+#![tactic(auto)]
+
 ghost use Rattle.std.specs.Prelude.{◌≡◌};
 ghost use Rattle.entry_write.specs.Writers.{encode_message, prepend_message, insert_record};
 

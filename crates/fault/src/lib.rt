@@ -1,4 +1,6 @@
 // Where a read that failed began, and how many bytes of a varint it looked at: told from the refusal and its place, so that no reader has to carry it.
+#![tactic(auto)]
+
 ghost use Rattle.std.specs.Prelude.{◌≡◌, eqb};
 ghost use Rattle.wire.specs.Numbers.{number_of};
 ghost use Rattle.wire.specs.declared.WireType.TheVariants.{LengthDelimited};

@@ -1,4 +1,6 @@
 // One field under a cap: its key, then its value; and one step of a message. From src/encoding/mod.rs and opaque.rs of bilrost.
+#![tactic(auto)]
+
 ghost use Rattle.std.specs.Prelude.{◌≡◌, ◌≤◌};
 ghost use Rattle.wire.specs.Reading.{wire_of, value_at, field_at, step_at};
 

@@ -1,5 +1,7 @@
 // A field's key: its wire type, read under a cap, measured, put and prepended. From src/encoding/mod.rs (`WireType`, `Capped`, `decode_key`,
 // `TagWriter`, `TagRevWriter`, `RuntimeTagMeasurer`) of bilrost.
+#![tactic(auto)]
+
 ghost use Rattle.std.specs.Prelude.{◌≡◌, ◌+◌, ◌-◌, ◌*◌, ◌%◌, length};
 ghost use Rattle.place.specs.Place.{put_at, prepend_at};
 ghost use Rattle.wire.specs.Numbers.{kind_of};

@@ -5,7 +5,8 @@ use Rattle.std.proofs.lemmas.Bool.{lt-leb}
 use Rattle.wire.specs.Choose.{choose}
 use Rattle.wire.specs.Faults.{plain_fault}
 use Rattle.wire.specs.Reading.{varint_at, capped_at, wire_of}
-use Rattle.wire.specs.ReadingLaws.{varint-moves, renamed-got}
+use Rattle.wire.specs.ReadingLaws.{renamed-got}
+use Rattle.wire.proofs.ReadingLaws.{varint-moves}
 use Rattle.wire.specs.Skipping.{in_slice, past_number, past_payload, past_at, repeats, beyond, skip_from}
 use Rattle.wire.specs.declared.Fault.{Fault}
 use Rattle.wire.specs.declared.Refusal.{Refusal}

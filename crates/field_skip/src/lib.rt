@@ -1,4 +1,6 @@
 // Fields passed over: a value, and every field of the same tag behind it. From src/encoding/mod.rs (`skip_field`) of bilrost.
+#![tactic(auto)]
+
 ghost use Rattle.std.specs.Prelude.{◌≡◌, ◌+◌};
 ghost use Rattle.wire.specs.Reading.{wire_of};
 ghost use Rattle.wire.specs.Skipping.{past_at, skip_at};

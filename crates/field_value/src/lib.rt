@@ -1,4 +1,6 @@
 // A field's value under a cap, by its wire type. From src/encoding/mod.rs (`Capped`) and opaque.rs of bilrost.
+#![tactic(auto)]
+
 ghost use Rattle.std.specs.Prelude.{◌≡◌, ◌∷◌, [], ◌+◌, ◌≤◌, length, take, drop};
 ghost use Rattle.wire.specs.Fixed.{number};
 ghost use Rattle.wire.specs.Reading.{value_at};

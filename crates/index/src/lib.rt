@@ -1,4 +1,6 @@
 // An index beside a stored message: a tag, the place of its first key and the number of its fields, three words each. Which of them may be used.
+#![tactic(auto)]
+
 ghost use Rattle.std.specs.Prelude.{◌≡◌};
 ghost use Rattle.index.specs.Index.{entry, sound_entry, sound_index};
 

@@ -8,7 +8,6 @@ use Rattle.wire.specs.declared.Refusal.TheVariants.{NoRoom, BadIndex}
 use Rattle.text_digits.specs.Digits.{digits, reads_on}
 use Rattle.entry_answer.specs.Stores.{Stored, at_front}
 use Rattle.entry_answer.specs.declared.Put.TheVariants as put
-use Rattle.entry_answer.specs.declared.Indexed.{Indexed}
 use Rattle.entry_answer.specs.declared.Indexed.TheVariants as indexed_as
 use Rattle.index.specs.Index.{Entry, entry, room, indexed, entries_from, sound_from, sound_index}
 use Rattle.index.specs.Index.{Outcome, outcome, landed, landed-fits, landed_none}

@@ -1,5 +1,7 @@
 // An index as a line of characters, written and read: the edition, then for each entry its tag, its place and its count in hexadecimal digits.
 // Place and count have w digits each: six in edition 02, which is written, and four in edition 01, which is read still.
+#![tactic(auto)]
+
 ghost use Rattle.std.specs.Prelude.{◌≡◌, ◌+◌, ◌*◌, ◌^◌, ◌-◌, ◌≤◌, ◌<◌, length, drop};
 ghost use Rattle.place.specs.Place.{put_at};
 ghost use Rattle.text_digits.specs.Digits.{digit_of, worth};

@@ -17,7 +17,7 @@ use Rattle.index.specs.Index.{Entry, entry, index_words, words_of, entry_words, 
 use Rattle.index_make.specs.declared.Group.TheVariants as group
 use Rattle.index_make.specs.Made.{Made, Entries, Refused, made, tags_of, into_index, Ready, starts, agrees_from, agrees}
 use Rattle.index_make.specs.Groups.{steps_in, group_at, made_from, before, made-end, made-refused, made-of}
-use Rattle.index_make.specs.GroupLaws.{Moved, group-moves, made-groups}
+use Rattle.index_make.specs.GroupLaws.{group-moves, made-groups}
 
 -- ---- what is made from a place on
 

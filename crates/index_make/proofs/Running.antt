@@ -7,7 +7,7 @@ use lib.ListN.{length}
 use Rattle.message.proofs.Walking.{positive}
 use Rattle.field.proofs.Dispatch.{step-keyless, step-keyed}
 use Rattle.wire.specs.Reading.{key_at, value_at, step_at}
-use Rattle.wire.specs.ReadingLaws.{field-moves}
+use Rattle.wire.proofs.ReadingLaws.{field-moves}
 use Rattle.wire.specs.StepBack.{Steps, field, refused, end, past, steps, step_field}
 use Rattle.wire.specs.declared.Refusal.{Refusal}
 use Rattle.wire.specs.declared.Refusal.TheVariants.{Truncated}
@@ -18,7 +18,6 @@ use Rattle.wire.specs.declared.KeyFound.TheVariants as key_found
 use Rattle.wire.specs.declared.ValueFound.{ValueFound}
 use Rattle.wire.specs.declared.ValueFound.TheVariants as value_found
 use Rattle.wire.specs.declared.Stepped.TheVariants as stepped
-use Rattle.index_make.specs.declared.Run.{Run}
 use Rattle.index_make.specs.Groups.{steps_in, run_from, run_end, run-refused, run-other, run-same}
 
 pub record Running (s : List ℕ) (t at p c : ℕ) : Type 0 where

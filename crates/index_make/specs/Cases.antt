@@ -1,5 +1,5 @@
 -- Cases of rules A1 to A4, computed.
-use Rattle.std.specs.Prelude.{ℕ, ◌≡◌, refl, Bool, true, false, List, [], ◌∷◌}
+use Rattle.std.specs.Prelude.{◌≡◌, refl, true, false, [], ◌∷◌}
 use Rattle.wire.specs.declared.Refusal.TheVariants.{Truncated, NoRoom}
 use Rattle.wire.specs.Reading.{read_message, field_at, varint_at}
 use Rattle.wire.specs.Marks.{marks}

@@ -5,7 +5,7 @@ use Rattle.std.proofs.Math.Path.{sym}
 use Rattle.std.proofs.lemmas.Bool.{eqb-false}
 use Rattle.wire.specs.Reading.{field_at, step_at, Message, Fields, in_front, reads_from, read_message}
 use Rattle.wire.specs.Reading as reading
-use Rattle.wire.specs.ReadingLaws.{field-moves}
+use Rattle.wire.proofs.ReadingLaws.{field-moves}
 use Rattle.wire.specs.StepBack.{Steps, field, refused, end, past, steps, step_field}
 use Rattle.wire.specs.Theorem.{turn-field, turn-refused, turn_end, turn-past}
 use Rattle.wire.specs.Marks.{Mark, marks_from, marks, marks-turn, marks-end}
@@ -17,10 +17,9 @@ use Rattle.wire.specs.declared.Stepped.{Stepped}
 use Rattle.wire.specs.declared.Stepped.TheVariants as stepped
 use Rattle.index.specs.Index.{Entry, entry}
 use Rattle.index_make.specs.declared.Run.{Run}
-use Rattle.index_make.specs.declared.Group.{Group}
 use Rattle.index_make.specs.declared.Group.TheVariants as group
-use Rattle.index_make.specs.Made.{joined, index_of, Made, Entries, Refused, made_of, made}
-use Rattle.index_make.specs.Groups.{steps_in, run_from, grouped, group_at, made_from, before}
+use Rattle.index_make.specs.Made.{joined, index_of, Made, made_of, made}
+use Rattle.index_make.specs.Groups.{steps_in, run_from, group_at, made_from, before}
 use Rattle.index_make.specs.Groups.{run_end, run-refused, run-other, run-same, group-end, group-refused, group-field, made-end, made-refused, made-of}
 
 -- ---- entries that are joined

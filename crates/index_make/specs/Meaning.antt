@@ -1,12 +1,11 @@
 -- What an index says of a message: its tags rise, and each has the place of its first key and the number of its fields.
-use Rattle.std.specs.Prelude.{ℕ, zero, suc, ◌+◌, ◌-◌, ◌*◌, ◌^◌, ◌≤◌, ◌<◌, ◌≡◌, refl, Bool, true, false, List, [], ◌∷◌, eqb, length}
+use Rattle.std.specs.Prelude.{ℕ, zero, suc, ◌+◌, ◌*◌, ◌^◌, ◌≤◌, ◌<◌, ◌≡◌, refl, Bool, true, false, List, [], ◌∷◌, eqb, length}
 use Rattle.std.proofs.Common.{ap, ◌∙◌, sym, arith, lt-ltb, le-leb, eq-eqb, ne_eqb, eqb-true}
 use Rattle.std.proofs.lemmas.Bool.{eqb-false}
 use Rattle.wire.specs.Choose.{choose}
-use Rattle.wire.specs.ReadingLaws.{field-moves}
+use Rattle.wire.proofs.ReadingLaws.{field-moves}
 use Rattle.wire.specs.Marks.{Mark, marks_from, fields_of}
 use Rattle.wire.specs.MarkLaws.{Marked, none, some, marked, Rising}
-use Rattle.wire.specs.declared.Field.{Field}
 use Rattle.message.specs.Tags.{of_tag}
 use Rattle.index.specs.Index.{Entry, entry, sound_entry, sound_from}
 use Rattle.index_make.specs.Made.{joined, index_of}

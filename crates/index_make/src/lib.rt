@@ -1,4 +1,6 @@
 // The index of a message, made and compared. The message is read tag by tag.
+#![tactic(auto)]
+
 ghost use Rattle.std.specs.Prelude.{◌≡◌, true, ◌∷◌, [], ◌+◌, ◌*◌, ◌≤◌, length, drop};
 ghost use Rattle.std.proofs.lemmas.List.Edits.{sets};
 ghost use Rattle.index.specs.Index.{index_words};
@@ -9,14 +11,14 @@ use entry_answer::{Gated, Indexed};
 use wire::{KeyFound, Refusal, ValueFound};
 
 // The fields of one tag that follow one another: how many, and the place after them.
-#[derive(Drop)]
+#[derive(Clone, Copy)]
 struct Run {
     count: usize,
     next: usize,
 }
 
 // The next tag of a message, how many fields it has, and the place after them.
-#[derive(Drop)]
+#[derive(Clone, Copy)]
 enum Group {
     Of(u32, usize, usize),
     End,

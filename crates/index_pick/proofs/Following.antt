@@ -14,7 +14,6 @@ use Rattle.wire.specs.declared.KeyFound.TheVariants as key_found
 use Rattle.wire.specs.declared.ValueFound.TheVariants as value_found
 use Rattle.entry_answer.specs.declared.Picked.TheVariants as picked
 use Rattle.index.specs.Index.{entry, index_words, entry_at, entries_from}
-use Rattle.index_pick.specs.declared.Followed.{Followed}
 use Rattle.index_pick.specs.declared.Followed.TheVariants as followed
 use Rattle.index_pick.specs.Looked.{follow_from, follow-early, follow-keyless, follow-other, follow-valueless, follow-on}
 use Rattle.index_pick.specs.Looked.{look_at, lookup, lookup-none, lookup-here, lookup-on}

@@ -2,7 +2,7 @@
 use Rattle.std.specs.Prelude.{ℕ, ◌≡◌, refl, List, [], ◌∷◌}
 use Rattle.wire.specs.Reading.{field_at, varint_at}
 use Rattle.wire.specs.declared.Refusal.TheVariants.{TagOverflowed, Repeated, BadIndex}
-use Rattle.wire.specs.declared.Value.TheVariants.{Varint, LengthDelimited}
+use Rattle.wire.specs.declared.Value.TheVariants.{LengthDelimited}
 use Rattle.entry_answer.specs.Gate.{gated}
 use Rattle.entry_answer.specs.declared.Picked.{Picked}
 use Rattle.entry_answer.specs.declared.Picked.TheVariants.{Found, Absent, Refused}

@@ -1,7 +1,6 @@
 -- A lookup through an index (rules A6 and A7).
 use Rattle.std.specs.Prelude.{ℕ, zero, suc, ◌-◌, ◌^◌, ◌≤◌, ◌<◌, ◌≡◌, true, false, List, [], ◌∷◌, ltb, eqb, length}
 use Rattle.std.proofs.Math.Path.{refl}
-use Rattle.std.proofs.Common.{ap, ◌∙◌, sym}
 use borrow.Author.Tests.{lt-ltb, le-ltb, eq-eqb, ne_eqb}
 use Rattle.wire.specs.Choose.{choose}
 use Rattle.wire.specs.Reading.{key_at, value_at, field_at}
@@ -21,7 +20,7 @@ use Rattle.entry_answer.specs.Gate.{gated, through, through-open, through-shut}
 use Rattle.entry_answer.specs.declared.Gated.TheVariants.{Open, Shut}
 use Rattle.entry_answer.specs.declared.Picked.{Picked}
 use Rattle.entry_answer.specs.declared.Picked.TheVariants as picked
-use Rattle.index.specs.Index.{Entry, entry, entries_from, sound_index}
+use Rattle.index.specs.Index.{Entry, entries_from, sound_index}
 use Rattle.index_pick.specs.declared.Followed.{Followed}
 use Rattle.index_pick.specs.declared.Followed.TheVariants as followed
 

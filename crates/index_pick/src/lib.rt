@@ -1,4 +1,6 @@
 // The only field of a tag, looked up through an index: only the fields that the index counts of the tag are read.
+#![tactic(auto)]
+
 ghost use Rattle.std.specs.Prelude.{◌≡◌, ◌-◌, ◌*◌, ◌≤◌, length};
 ghost use Rattle.index.specs.Index.{entry, index_words, entries_from};
 ghost use Rattle.index_pick.specs.Looked.{follow_from, only_one, look_at, lookup, pick_indexed};
@@ -7,7 +9,7 @@ use entry_answer::{Gated, Picked};
 use wire::{Field, KeyFound, Refusal, Value, ValueFound};
 
 // Whether all fields that were counted stand there, or why not.
-#[derive(Drop)]
+#[derive(Clone, Copy)]
 pub enum Followed {
     All,
     Refused(Refusal),

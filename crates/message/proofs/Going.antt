@@ -7,7 +7,7 @@ use mathlib.Core.List.{List}
 use native.Mathlib.Omega.{arith}
 use lib.ListN.{length}
 use Rattle.wire.specs.Reading.{step_at}
-use Rattle.wire.specs.ReadingLaws.{field-moves}
+use Rattle.wire.proofs.ReadingLaws.{field-moves}
 use Rattle.wire.specs.StepBack.{step_field}
 use Rattle.wire.specs.declared.Refusal.{Refusal}
 use Rattle.wire.specs.declared.Field.{Field}

@@ -1,11 +1,11 @@
 -- A walk over a message, field by field: where it stands, and what a field, a refusal and the end make of that.
-use Prim.Native.Nat.{ℕ, suc, ◌+◌, ◌-◌, ◌*◌, ◌≤◌, ◌<◌}
+use Prim.Native.Nat.{ℕ, suc, ◌-◌, ◌*◌, ◌≤◌, ◌<◌}
 use mathlib.Core.Path.{◌≡◌, refl, ap, ◌∙◌, sym}
 use mathlib.Core.List.{List, [], ◌∷◌, ◌++◌, append_assoc, append-nil}
 use native.Mathlib.Omega.{arith}
 use lib.ListN.{length, length-append}
 use Rattle.wire.specs.Reading.{field_at, step_at, Message, Fields, Refused, in_front, reads_from, read_message}
-use Rattle.wire.specs.ReadingLaws.{field-moves}
+use Rattle.wire.proofs.ReadingLaws.{field-moves}
 use Rattle.wire.specs.StepBack.{way, Steps, field, refused, end, past, steps, step_field, step_end}
 use Rattle.wire.specs.Theorem.{turn-field, turn-refused, turn_end, turn-past}
 use Rattle.wire.specs.declared.Refusal.{Refusal}

@@ -1,5 +1,7 @@
 // A whole message: decided and counted, or decided and searched for one tag. Nothing is written. From src/encoding/message.rs (`merge`) and
 // opaque.rs of bilrost.
+#![tactic(auto)]
+
 ghost use Rattle.std.specs.Prelude.{◌≡◌, length};
 ghost use Rattle.wire.specs.Reading.{read_message};
 ghost use Rattle.message.specs.Deciding.{decided};
@@ -9,14 +11,14 @@ ghost use Rattle.message.specs.Walks.{walked};
 use wire::{Field, FieldFound, Refusal, Stepped, Value};
 
 // The number of fields, or a refusal and its place.
-#[derive(Drop)]
+#[derive(Clone, Copy)]
 pub enum Decided {
     Fields(usize),
     Refused(Refusal, usize),
 }
 
 // The field that was looked for, and how many there are of its tag.
-#[derive(Drop)]
+#[derive(Clone, Copy)]
 pub enum Sought {
     Found(Field, usize),
     Absent(usize),
@@ -25,7 +27,7 @@ pub enum Sought {
 
 // Where a walk stopped: the field that it looked for, with the place after it, or, if it went on to the end, with how many were wanted; else
 // how many were wanted, which were too few; or a refusal.
-#[derive(Drop)]
+#[derive(Clone, Copy)]
 pub enum Walked {
     Field(Field, usize),
     End(usize),

@@ -4,10 +4,12 @@ use Rattle.std.proofs.Common.{ap, ◌∙◌, sym, arith, take-take, length-take-
 use borrow.Author.Tests.{lt-ltb, le-ltb}
 use Rattle.std.proofs.Math.Seq.{take-nil}
 use Rattle.wire.specs.Varint.{Adds, sum}
-use Rattle.wire.specs.VarintLaws.{Summed, ends, goes_on, summed, sum-takes, stops}
+use Rattle.wire.specs.VarintLaws.{Summed, ends, goes_on, summed, stops}
+use Rattle.wire.proofs.VarintLaws.{sum-takes}
 use Rattle.wire.specs.Fixed.{number}
 use Rattle.wire.specs.Reading.{varint_at, capped_at, within, value_at, field_at}
-use Rattle.wire.specs.ReadingLaws.{judged-got, renamed-got, number-got, payload-got, within-got, within-back, value-moves, field_found_lem}
+use Rattle.wire.specs.ReadingLaws.{judged-got, renamed-got, number-got, payload-got, within-got, within-back}
+use Rattle.wire.proofs.ReadingLaws.{value-moves, field_found_lem}
 use Rattle.wire.specs.declared.WireType.{WireType}
 use Rattle.wire.specs.declared.WireType.TheVariants as wire_type
 use Rattle.wire.specs.declared.Value.{Value}

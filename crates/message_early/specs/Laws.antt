@@ -4,8 +4,9 @@ use Rattle.std.proofs.Common.{ap, ◌∙◌, sym, arith}
 use borrow.Author.Tests.{lt-ltb, le-ltb, ltb-true, ltb-false, ne_eqb}
 use Rattle.wire.specs.Reading.{key_at, value_at, tagged, field_of, field_at, Fields, in_front, reads_from, read_message}
 use Rattle.wire.specs.Reading as reading
-use Rattle.wire.specs.ReadingLaws.{field-moves}
-use Rattle.wire.specs.Theorem.{turn-field, turn-refused, turn_end, Stands, none, some, stands, refused-fields, in-front-fields}
+use Rattle.wire.proofs.ReadingLaws.{field-moves}
+use Rattle.wire.specs.Theorem.{turn-field, turn-refused, turn_end, Stands, none, some, refused-fields, in-front-fields}
+use Rattle.wire.proofs.Theorem.{stands}
 use Rattle.message_early.specs.Cut.{field_cut}
 use Rattle.wire.specs.declared.Refusal.{Refusal}
 use Rattle.wire.specs.declared.Refusal.TheVariants.{Truncated}
@@ -124,7 +125,7 @@ module _ (t : ℕ) (s : List ℕ) where
   meets-end zero m p last h = whole [] refl tt (turn_end s (length s) m p last zero h)
   meets-end (suc k) m p last h = whole [] (rw (le-ltb p (length s) (omega arith))) tt (turn_end s (length s) m p last (suc k) h)
 
-  meets : (k m p last : ℕ) → p ≤ length s → length s - p ≤ k → Meets k t s m p last
+  pub meets : (k m p last : ℕ) → p ≤ length s → length s - p ≤ k → Meets k t s m p last
   meets zero m p last a b = meets-end zero m p last (omega arith)
   meets (suc k) m p last a b = go (ltb p (length s)) refl (looks t s p last) (meets k)
     where
@@ -172,15 +173,3 @@ pub data Stopped (t : ℕ) (s : List ℕ) : Type 0 where
       → read_message (take h s) 0 h ≡ Fields fs
       → ((gs : List Field) → read_message s 0 (length s) ≡ Fields gs → of_tag t gs ≡ of_tag t fs) → Stopped t s
   not-read : (r : Refusal) (i : ℕ) → stop t s ≡ Refused r → read_message s 0 (length s) ≡ reading.Refused r i → Stopped t s
-
-pub stopped : (t : ℕ) (s : List ℕ) → Stopped t s
-unfolding stop read_message
-stopped t s = go (meets t s (length s) 0 0 0 (omega arith) (omega arith))
-  where
-    all : length s - 0 ≡ length s
-    all = omega arith
-
-    go : Meets (length s) t s 0 0 0 → Stopped t s
-    go (whole fs a u b) = at-end fs a u (rw all b)
-    go (cut fs h a u b c v d o) = at_key fs h a u c v (d (h - 0) 0 (omega arith)) (λ gs r. o gs (rw all at r))
-    go (refused r i a b) = not-read r i a (rw all b)

@@ -1,12 +1,14 @@
 // One tag looked for from a message's front: the search stops at the first key above it, whose value is not read.
 // Ours: the Rust has no such lookup.
+#![tactic(auto)]
+
 ghost use Rattle.std.specs.Prelude.{◌≡◌};
 ghost use Rattle.message_early.specs.Early.{sight_at, told_of, stop, early_of};
 
 use wire::{Early, Field, KeyFound, Refusal, Value, ValueFound};
 
 // What stands at a place: a field and the place after it, or a key above the tag, or why there is neither.
-#[derive(Drop)]
+#[derive(Clone, Copy)]
 enum Sight {
     Field(Field, usize),
     Above,

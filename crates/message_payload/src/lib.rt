@@ -1,11 +1,13 @@
 // A record's payload: where it starts in its message, and its length. Ours: the Rust hands out the payload itself.
+#![tactic(auto)]
+
 ghost use Rattle.std.specs.Prelude.{◌≡◌};
 ghost use Rattle.message_payload.specs.Payload.{span_of};
 
 use wire::Record;
 
 // A part of a slice: where it starts, and its length.
-#[derive(Drop)]
+#[derive(Clone, Copy)]
 pub struct Span {
     pub start: usize,
     pub length: usize,

@@ -1,15 +1,18 @@
 -- The second pass: what is still to be written, on top of what is there, is the goal.
 use Prim.Native.Nat.{ℕ, suc, ◌+◌, ◌-◌, ◌*◌, ◌/◌, ◌%◌, ◌^◌, ◌≤◌, ◌<◌}
 use mathlib.Core.Path.{◌≡◌, ap, ◌∙◌, sym}
-use mathlib.Core.List.{List, [], ◌∷◌, ◌++◌}
+use mathlib.Core.List.{List, ◌∷◌, ◌++◌}
 use native.Mathlib.Omega.{arith}
 use lib.ListN.{length, drop}
 use lib.Seq.{sets, sets-eq, length-sets}
 use Rattle.wire.specs.Limits.{record_words}
-use Rattle.wire.specs.Marks.{Mark, marks_from, marks, marks-turn, marks-end, marks-count}
+use Rattle.wire.specs.Marks.{Mark, marks_from, marks, marks-turn, marks-end}
+use Rattle.wire.proofs.Marks.{marks-count}
 use Rattle.wire.specs.Reading.{field_at, varint_at, value_at, wire_of, Fields, reads_from, read_message}
-use Rattle.wire.specs.ReadingLaws.{field-moves, field_found_lem, Found, kind-wire}
-use Rattle.wire.specs.Theorem.{Stands, none, some, stands}
+use Rattle.wire.specs.ReadingLaws.{Found, kind-wire}
+use Rattle.wire.proofs.ReadingLaws.{field-moves, field_found_lem}
+use Rattle.wire.specs.Theorem.{Stands, none, some}
+use Rattle.wire.proofs.Theorem.{stands}
 use Rattle.wire.specs.Table.{kind_word, words, records, filled, length-records}
 use Rattle.wire.specs.declared.Field.{Field}
 use Rattle.wire.specs.declared.Record.{Record}

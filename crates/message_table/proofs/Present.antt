@@ -11,7 +11,8 @@ use Rattle.varint_read.proofs.Reading.{Passed, stands, stop, ninth-over, two_byt
 use Rattle.wire.specs.Fixed.{number}
 use Rattle.wire.specs.Numbers.{kind_of}
 use Rattle.wire.specs.Reading.{varint_at, capped_at, value_at, wire_of}
-use Rattle.wire.specs.ReadingLaws.{varint-moves, renamed-got, number-got, payload-got, within-got, wire-eight}
+use Rattle.wire.specs.ReadingLaws.{renamed-got, number-got, payload-got, within-got, wire-eight}
+use Rattle.wire.proofs.ReadingLaws.{varint-moves}
 use Rattle.wire.specs.Table.{kind_word, value_word, length_word}
 use Rattle.wire.specs.declared.WireType.{WireType}
 use Rattle.wire.specs.declared.WireType.TheVariants as wire_type

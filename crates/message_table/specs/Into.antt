@@ -17,7 +17,8 @@ use Rattle.wire.specs.declared.Field.{Field}
 use Rattle.wire.specs.declared.Read.{Read}
 use Rattle.wire.specs.declared.Read.TheVariants.{Accepted, Refused}
 use Rattle.fault.specs.Fault.{message_fault}
-use Rattle.fault.specs.Short.{fault_at, message-short}
+use Rattle.fault.specs.Short.{fault_at}
+use Rattle.fault.proofs.Short.{message-short}
 
 -- what a message reader answers, and what it leaves in the table
 pub record Outcome : Type 0 where

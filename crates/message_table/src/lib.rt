@@ -1,4 +1,6 @@
 // A whole message read into a table: decided and counted first, then written. From src/encoding/message.rs (`merge`) and opaque.rs of bilrost.
+#![tactic(auto)]
+
 ghost use Rattle.std.specs.Prelude.{◌≡◌, ◌+◌, ◌≤◌, ◌<◌, ◌^◌, length, take, drop};
 ghost use Rattle.std.proofs.lemmas.List.Edits.{sets};
 ghost use Rattle.wire.specs.Fixed.{number};
@@ -15,13 +17,13 @@ ghost use Rattle.message_table.specs.Second.{Fits, Varinted, Valued, Worded};
 use message::Decided;
 use wire::{Fault, Read, Record, Refusal};
 
-#[derive(Drop)]
+#[derive(Clone, Copy)]
 struct Known {
     value: u64,
     next: usize,
 }
 
-#[derive(Drop)]
+#[derive(Clone, Copy)]
 struct Words {
     value: u64,
     length: u64,

@@ -1,5 +1,7 @@
 // Bytes put into a lent buffer from a place on: a part of another slice, and a number lowest byte first.
 // Each answers the place after them; where they have no room, the place given, and nothing is written.
+#![tactic(auto)]
+
 ghost use Rattle.std.specs.Prelude.{◌≡◌, ◌+◌, ◌≤◌, ◌<◌, length};
 ghost use Rattle.wire.specs.Fixed.{fixed};
 ghost use Rattle.place.specs.Place.{Placed, put_at, put_part, roomy};

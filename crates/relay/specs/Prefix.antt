@@ -1,12 +1,12 @@
 -- The sum at the front of bytes (rules V1 and V2), beside that of the first j of them: the same if it ends among them, else it stops.
 use Rattle.std.specs.Prelude.{ℕ, zero, suc, ◌≤◌, ◌<◌, ◌≡◌, refl, Bool, true, false, List, [], ◌∷◌, ltb, leb, take}
-use Rattle.std.proofs.Common.{sym, ◌∙◌, arith, le-ltb, ltb-false, leb-true, leb-false}
+use Rattle.std.proofs.Common.{sym, arith, le-ltb, leb-true, leb-false}
 use Rattle.wire.specs.Varint.{Sum, Adds, Stops, sum}
-use Rattle.wire.specs.VarintLaws.{Summed, ends, goes_on, summed, sum-nil, stops}
+use Rattle.wire.specs.VarintLaws.{Summed, ends, goes_on, summed, stops}
 use Rattle.message_early.specs.Cut.{sum-cut}
 
 -- a sum that takes more bytes than there are left stops
-sum-short : (k : ℕ) (bs : List ℕ) (v n j : ℕ) → sum k bs ≡ Adds v n → j < n → sum k (take j bs) ≡ Stops
+pub sum-short : (k : ℕ) (bs : List ℕ) (v n j : ℕ) → sum k bs ≡ Adds v n → j < n → sum k (take j bs) ≡ Stops
 sum-short zero [] v n j e h = stops e
 sum-short (suc k) [] v n j e h = stops e
 sum-short zero (b ∷ bs) v n zero e h = refl
@@ -19,7 +19,7 @@ sum-short (suc k) (b ∷ bs) v n (suc j) e h = go (summed k b bs v n e) (sum-sho
     go (goes_on a w m q x y) ih = rw (le-ltb b 128 a, ih w m j q (omega arith))
 
 -- one that stops stops in fewer bytes too
-sum-stops : (k : ℕ) (bs : List ℕ) (j : ℕ) → sum k bs ≡ Stops → sum k (take j bs) ≡ Stops
+pub sum-stops : (k : ℕ) (bs : List ℕ) (j : ℕ) → sum k bs ≡ Stops → sum k (take j bs) ≡ Stops
 sum-stops zero [] zero e = refl
 sum-stops zero [] (suc j) e = refl
 sum-stops (suc k) [] zero e = refl
@@ -39,14 +39,3 @@ pub data Prefixed (k : ℕ) (bs : List ℕ) (j : ℕ) : Type 0 where
   among : (v n : ℕ) → sum k bs ≡ Adds v n → sum k (take j bs) ≡ Adds v n → n ≤ j → Prefixed k bs j
   past : (v n : ℕ) → sum k bs ≡ Adds v n → sum k (take j bs) ≡ Stops → j < n → Prefixed k bs j
   both : sum k bs ≡ Stops → sum k (take j bs) ≡ Stops → Prefixed k bs j
-
-pub prefixed : (k : ℕ) (bs : List ℕ) (j : ℕ) → Prefixed k bs j
-prefixed k bs j = go (sum k bs) refl
-  where
-    added : (v n : ℕ) → sum k bs ≡ Adds v n → (t : Bool) → leb n j ≡ t → Prefixed k bs j
-    added v n e true t = let h = leb-true n j t in among v n e (sum-cut k bs v n j e h) h
-    added v n e false t = let h = leb-false n j t in past v n e (sum-short k bs v n j e h) h
-
-    go : (r : Sum) → sum k bs ≡ r → Prefixed k bs j
-    go (Adds v n) e = added v n e (leb n j) refl
-    go Stops e = both e (sum-stops k bs j e)

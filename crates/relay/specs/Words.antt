@@ -24,7 +24,7 @@ moved_record a r =
 abbrev marked : ℕ → ℕ → Value → Mark
 marked k t v = record { key = k; field = record { tag = t; value = v } }
 
-record-moved : (a : ℕ) (m : Mark) → record_of (moved_mark a m) ≡ moved_record a (record_of m)
+pub record-moved : (a : ℕ) (m : Mark) → record_of (moved_mark a m) ≡ moved_record a (record_of m)
 record-moved a m = go m.field.value
   where
     go : (v : Value) → record_of (marked (a + m.key) m.field.tag (moved_value a v)) ≡ moved_record a (record_of (marked m.key m.field.tag v))
@@ -32,19 +32,6 @@ record-moved a m = go m.field.value
     go (val.LengthDelimited p n) = refl
     go (val.ThirtyTwoBit v) = refl
     go (val.SixtyFourBit v) = refl
-
--- record i of the cap is record i of the cut, moved; whatever stands behind the records
-pub records-moved : (a : ℕ) (ms : List Mark) (t u : List ℕ) (i : ℕ) → i < length ms
-    → record_at (records (moved_marks a ms) ++ t) i ≡ moved_record a (record_at (records ms ++ u) i)
-records-moved a [] t u i h = absurd (omega arith)
-records-moved a (m ∷ ms) t u zero h =
-    record-first (record_of (moved_mark a m)) (records (moved_marks a ms) ++ t)
-    ∙ record-moved a m
-    ∙ ap (moved_record a) (sym (record-first (record_of m) (records ms ++ u)))
-records-moved a (m ∷ ms) t u (suc i) h =
-    record-behind (record_of (moved_mark a m)) (records (moved_marks a ms) ++ t) i
-    ∙ records-moved a ms t u i (omega arith)
-    ∙ ap (moved_record a) (sym (record-behind (record_of m) (records ms ++ u) i))
 
 pub fields-moved : (a : ℕ) (ms : List Mark) → length (fields_of (moved_marks a ms)) ≡ length (fields_of ms)
 fields-moved a [] = refl

@@ -8,7 +8,7 @@ pub(crate) const FILL_WORD: u64 = 0xA5A5_A5A5_A5A5_A5A5;
 pub(crate) const FILL_BYTE: u8 = 0xA5;
 
 // Words of a line to be copied so many times: from first to end, now at one of them.
-#[derive(Drop)]
+#[derive(Clone, Copy)]
 pub(crate) struct Copies {
     pub(crate) first: usize,
     pub(crate) end: usize,
@@ -17,7 +17,7 @@ pub(crate) struct Copies {
 }
 
 // The part of lent memory that a call may write, and what the rest must still hold.
-#[derive(Drop)]
+#[derive(Clone, Copy)]
 pub(crate) struct Part {
     pub(crate) start: usize,
     pub(crate) length: usize,
@@ -25,7 +25,7 @@ pub(crate) struct Part {
 }
 
 // What was found in lent memory: how many words the answer has now, and the sum.
-#[derive(Drop)]
+#[derive(Clone, Copy)]
 pub(crate) struct Seen {
     pub(crate) words: usize,
     pub(crate) sum: u64,

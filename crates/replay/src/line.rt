@@ -10,7 +10,7 @@ pub(crate) const BAD: usize = 2_049;
 pub(crate) type Words = [u64; WORDS];
 
 // A case: its letter, its words, and how many of them are asked.
-#[derive(Drop)]
+#[derive(Clone, Copy)]
 pub(crate) struct Case {
     pub(crate) letter: u8,
     pub(crate) asked: usize,
@@ -18,7 +18,7 @@ pub(crate) struct Case {
 }
 
 // What a line is: a title; a letter that sets something, and its words; a case; none of these.
-#[derive(Drop)]
+#[derive(Clone, Copy)]
 pub(crate) enum Form {
     Title,
     Sets(u8, usize),
@@ -27,7 +27,7 @@ pub(crate) enum Form {
 }
 
 // A number, and the place after it.
-#[derive(Drop)]
+#[derive(Clone, Copy)]
 pub(crate) struct Word {
     pub(crate) value: u64,
     pub(crate) next: usize,

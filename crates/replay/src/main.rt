@@ -1,5 +1,7 @@
 // The program `replay`: the fixed list of the oracle's answers, asked of the entries as C is handed them. It prints each case that is answered
 // otherwise, and last how many there were and how many differ. oracle/README.md has the list's form.
+#![tactic(auto)]
+
 mod fields;
 mod lent;
 mod letter;
@@ -8,9 +10,13 @@ mod messages;
 
 use fields::{ask_field, ask_number, ask_put, ask_varint};
 use lent::Copies;
-use libc::STDOUT_FILENO;
 use line::{BAD, Case, Form, WORDS, Words};
 use messages::{ask_insert, ask_payload, ask_pick, ask_read, ask_write};
+use std::fs::File;
+use std::io;
+use std::process::ExitCode;
+
+const LIST: &str = "list";
 
 const SOURCE_ROOM: usize = 1_048_576;
 
@@ -20,7 +26,7 @@ const TABLE_ROOM: usize = 163_840;
 const BUFFER_ROOM: usize = 1_048_640;
 
 // The line that is being read, what the lines so far have set, and the counts.
-#[derive(Drop)]
+#[derive(Clone, Copy)]
 struct State {
     chars: usize,
     line: u64,
@@ -84,6 +90,7 @@ impl State {
 }
 
 fn set_lent(
+    rt: &HostRuntime,
     text: &[u8],
     letter: u8,
     n: usize,
@@ -103,7 +110,7 @@ fn set_lent(
             let from = st.table;
             st.with_table(lent::put_words(words, Copies::of(1, n, words[0]), table, from))
         }
-        _ => not_a_line(text, st),
+        _ => not_a_line(rt, text, st),
     }
 }
 
@@ -193,40 +200,37 @@ fn same(words: &Words, asked: usize, end: usize, ours: &Words, n: usize) -> bool
     k == n
 }
 
-fn print(text: &[u8]) {
-    io::write_all(STDOUT_FILENO, text);
-}
-
-fn print_word(w: u64) {
-    print(b" ");
-    io::print_hex(STDOUT_FILENO, w, 1);
-}
-
-fn print_words(ours: &Words, n: usize) {
-    let mut i = 0;
-    while i < n {
-        print_word(line::word_of(ours, i));
-        i += 1;
-    }
+fn print(rt: &HostRuntime, text: &[u8]) {
+    stream::write_all(&mut rt.stdout(), text);
 }
 
 // A line of the list that was answered otherwise: its number, the line, and our words.
-fn print_difference(line: u64, text: &[u8], ours: &Words, n: usize) {
-    io::print_decimal(STDOUT_FILENO, line);
-    print(b": ");
-    print(text);
-    print(b" ours");
-    print_words(ours, n);
-    print(b"\n");
+fn print_difference(rt: &HostRuntime, line: u64, text: &[u8], ours: &Words, n: usize) {
+    let _ = print!(rt; "{line}: ");
+    print(rt, text);
+    print(rt, b" ours");
+    print_words(rt, ours, n);
+    print(rt, b"\n");
 }
 
-fn not_a_line(text: &[u8], st: State) -> State {
+fn print_word(rt: &HostRuntime, w: u64) {
+    let _ = print!(rt; " {w:x}");
+}
+
+fn print_words(rt: &HostRuntime, ours: &Words, n: usize) {
+    for i in 0..n {
+        print_word(rt, line::word_of(ours, i));
+    }
+}
+
+fn not_a_line(rt: &HostRuntime, text: &[u8], st: State) -> State {
     let ours: Words = [0; WORDS];
-    print_difference(st.line, text, &ours, 0);
+    print_difference(rt, st.line, text, &ours, 0);
     st.wrong()
 }
 
 fn ask_case(
+    rt: &HostRuntime,
     text: &[u8],
     c: Case,
     words: &Words,
@@ -240,13 +244,13 @@ fn ask_case(
     let s = st.source;
     let t = table_for(letter, words, st.table);
     if c.asked != asked_by(letter) {
-        return not_a_line(text, st);
+        return not_a_line(rt, text, st);
     }
     if source.len() < s {
-        return not_a_line(text, st);
+        return not_a_line(rt, text, st);
     }
     if table.len() < t {
-        return not_a_line(text, st);
+        return not_a_line(rt, text, st);
     }
     let n = answer(
         letter,
@@ -261,11 +265,12 @@ fn ask_case(
     if same(words, c.asked, end, &ours, n) {
         return next.right();
     }
-    print_difference(st.line, text, &ours, n);
+    print_difference(rt, st.line, text, &ours, n);
     next.wrong()
 }
 
 fn take_line(
+    rt: &HostRuntime,
     text: &[u8],
     source: &mut [u8],
     table: &mut [u64],
@@ -275,14 +280,15 @@ fn take_line(
     let mut words: Words = [0; WORDS];
     match line::form_of(text, &mut words) {
         Form::Title => st,
-        Form::Sets(letter, n) => set_lent(text, letter, n, &words, source, table, st),
-        Form::Asks(c) => ask_case(text, c, &words, source, table, buf, st),
-        Form::Bad => not_a_line(text, st),
+        Form::Sets(letter, n) => set_lent(rt, text, letter, n, &words, source, table, st),
+        Form::Asks(c) => ask_case(rt, text, c, &words, source, table, buf, st),
+        Form::Bad => not_a_line(rt, text, st),
     }
 }
 
 // One character of the list: kept, or at a line's end the line is taken. A line that is too long is in no list.
 fn feed(
+    rt: &HostRuntime,
     line: &mut [u8],
     source: &mut [u8],
     table: &mut [u64],
@@ -293,9 +299,9 @@ fn feed(
     let n = st.chars;
     if c == b'\n' {
         if n <= line.len() {
-            return take_line(&line[0..n], source, table, buf, st).next_line();
+            return take_line(rt, &line[0..n], source, table, buf, st).next_line();
         }
-        return not_a_line(b"a line that is too long", st).next_line();
+        return not_a_line(rt, b"a line that is too long", st).next_line();
     }
     if n < line.len() {
         line[n] = c;
@@ -305,6 +311,7 @@ fn feed(
 }
 
 fn feed_all(
+    rt: &HostRuntime,
     block: &[u8],
     line: &mut [u8],
     source: &mut [u8],
@@ -313,30 +320,26 @@ fn feed_all(
     st: State,
 ) -> State {
     let mut now = st;
-    let mut i = 0;
-    while i < block.len() {
-        now = feed(line, source, table, buf, now, block[i]);
-        i += 1;
+    for c in block {
+        now = feed(rt, line, source, table, buf, now, *c);
     }
     now
 }
 
-fn replay(fd: i32) -> State {
+fn replay(rt: &HostRuntime, list: &mut File) -> io::Result<State> {
     let mut line = [0u8; 4096];
     let mut source = [0u8; SOURCE_ROOM];
     let mut table = [0u64; TABLE_ROOM];
     let mut buf = [0u8; BUFFER_ROOM];
     let mut block = [0u8; 4096];
     let mut st = State::start();
-    let mut turns = u64::MAX;
-    while 0 < turns {
-        turns -= 1;
-        let got = stream::read_block(fd, &mut block);
-        let n = io::count(got, &block);
+    for _ in 0..u64::MAX {
+        let n = stream::read_block(list, &mut block)?;
         if n == 0 {
             break;
         }
         st = feed_all(
+            rt,
             &block[0..n],
             &mut line,
             &mut source,
@@ -345,20 +348,23 @@ fn replay(fd: i32) -> State {
             st,
         );
     }
-    st
+    Ok(st)
 }
 
-fn main() {
-    let path = b"list";
-    let fd = os::open_read(path);
-    if fd < 0 {
-        os::fail(path);
-        return;
+fn replay_list(rt: &HostRuntime) -> io::Result<()> {
+    let mut list = File::open(rt, LIST)?;
+    let st = replay(rt, &mut list)?;
+    let cases = st.cases;
+    let differ = st.differ;
+    println!(rt; "{cases} cases, {differ} differ")
+}
+
+fn main(rt: HostRuntime) -> ExitCode {
+    match replay_list(&rt) {
+        Ok(()) => ExitCode::SUCCESS,
+        Err(e) => {
+            let _ = eprintln!(rt; "{LIST}: {e}");
+            ExitCode::FAILURE
+        }
     }
-    let st = replay(fd);
-    libc::close(fd);
-    io::print_decimal(STDOUT_FILENO, st.cases);
-    print(b" cases, ");
-    io::print_decimal(STDOUT_FILENO, st.differ);
-    print(b" differ\n");
 }

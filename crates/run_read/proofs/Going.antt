@@ -12,7 +12,7 @@ use lib.Seq.{sets, sets-eq, length-sets}
 use Rattle.wire.specs.Choose.{choose}
 use Rattle.wire.specs.Limits.{record_words}
 use Rattle.wire.specs.Reading.{value_at}
-use Rattle.wire.specs.ReadingLaws.{value-moves}
+use Rattle.wire.proofs.ReadingLaws.{value-moves}
 use Rattle.wire.specs.Table.{words}
 use Rattle.wire.specs.declared.Refusal.{Refusal}
 use Rattle.wire.specs.declared.Refusal.TheVariants.{Truncated}

@@ -1,5 +1,5 @@
 -- Cases of rules U1 to U4, computed.
-use Rattle.std.specs.Prelude.{ℕ, ◌≡◌, refl, List, [], ◌∷◌}
+use Rattle.std.specs.Prelude.{◌≡◌, refl, [], ◌∷◌}
 use Rattle.wire.specs.Limits.{no_key}
 use Rattle.wire.specs.Reading.{varint_at}
 use Rattle.wire.specs.declared.Refusal.TheVariants.{Truncated, InvalidVarint, NoRoom}

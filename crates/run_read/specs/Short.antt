@@ -3,7 +3,7 @@ use Rattle.std.specs.Prelude.{ℕ, zero, suc, ◌+◌, ◌-◌, ◌*◌, ◌/◌
 use Rattle.std.proofs.Common.{sym, inl, inr, arith, lt-ltb, le-ltb, ltb-true, ltb-false, length-drop, get_or-drop}
 use Rattle.wire.specs.Choose.{choose}
 use Rattle.wire.specs.Reading.{varint_at, value_at}
-use Rattle.wire.specs.ReadingLaws.{value-moves}
+use Rattle.wire.proofs.ReadingLaws.{value-moves}
 use Rattle.wire.specs.Varint.{Adds, sum}
 use Rattle.wire.specs.VarintLaws.{Bytes}
 use Rattle.wire.specs.declared.WireType.{WireType}

@@ -1,21 +1,21 @@
 -- Runs (rule U6), once for every wire type: what is accepted is exactly what some list of good values of the type is written as, and there is one such list.
-use Prim.Native.Nat.{ℕ, zero, suc, ◌+◌, ◌-◌, ◌*◌, ◌≤◌, ◌<◌}
+use Prim.Native.Nat.{ℕ, zero, suc, ◌+◌, ◌-◌, ◌*◌, ◌≤◌}
 use Rattle.std.specs.Prelude.{◌≡◌, refl, drop}
 use Rattle.std.proofs.Math.Path.{ap, sym}
 use Rattle.std.proofs.Common.{◌∙◌, length-append, length-drop}
-use mathlib.Core.List.{List, [], ◌∷◌, ◌++◌}
+use mathlib.Core.List.{List, [], ◌∷◌}
 use Rattle.std.proofs.Math.Nat.{mul-suc}
 use native.Mathlib.Omega.{arith}
 use Rattle.std.proofs.Math.ListN.{length, take}
 use Rattle.std.proofs.Math.Seq.{take-length}
 use Rattle.wire.specs.Fixed.{number}
 use Rattle.wire.specs.VarintLaws.{Bytes}
-use Rattle.wire.specs.Numbers.{kind_of}
 use Rattle.wire.specs.Types.{wire-kind}
 use Rattle.wire.specs.Written.{Content, content_kind, written_content}
 use Rattle.wire.specs.Places.{part, join, behind}
 use Rattle.wire.specs.Reading.{value_at, wire_of, within}
-use Rattle.wire.specs.ReadingLaws.{value-moves, value-took, value-back, content-pos, within-got, within-back}
+use Rattle.wire.specs.ReadingLaws.{within-got, within-back}
+use Rattle.wire.proofs.ReadingLaws.{value-moves, value-took, value-back, content-pos}
 use Rattle.wire.specs.declared.Refusal.{Refusal}
 use Rattle.wire.specs.declared.WireType.{WireType}
 use Rattle.wire.specs.declared.WireType.TheVariants as wire_type

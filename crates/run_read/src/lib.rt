@@ -1,4 +1,6 @@
 // Packed runs, read: values of one wire type behind one another, without keys. The run is the whole slice. From src/encoding/opaque.rs (`packed`) of bilrost.
+#![tactic(auto)]
+
 ghost use Rattle.std.specs.Prelude.{◌≡◌, ◌+◌, ◌/◌, ◌≤◌, ◌<◌, ◌^◌, length, take, drop};
 ghost use Rattle.std.proofs.lemmas.List.Edits.{sets};
 ghost use Rattle.wire.specs.Limits.{record_words, no_key};
@@ -15,7 +17,7 @@ use entry_answer::{Gated, RunCount, RunValue};
 use wire::{NO_KEY, RECORD_WORDS, Record, Refusal, Value, ValueFound, VarintFound, WireType};
 
 // Numbers that were passed: how many, and where the next one begins.
-#[derive(Drop)]
+#[derive(Clone, Copy)]
 struct Passed {
     count: usize,
     next: usize,

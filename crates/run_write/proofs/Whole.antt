@@ -1,10 +1,10 @@
 -- The whole run: what is known where measuring for a buffer found room, and that the run put there is what was promised.
-use Prim.Native.Nat.{ℕ, ◌-◌, ◌≤◌}
+use Prim.Native.Nat.{ℕ, ◌≤◌}
 use mathlib.Core.Path.{◌≡◌, ap, ◌∙◌, sym}
 use mathlib.Core.List.{List}
 use native.Mathlib.Omega.{arith}
 use lib.ListN.{length}
-use Rattle.write_message.specs.Writing.{Writes, fitted, Writing, into, front}
+use Rattle.write_message.specs.Writing.{Writes, fitted, front}
 use Rattle.write_message.specs.WritingLaws.{into-writes, fitted-at}
 use Rattle.wire.specs.declared.Written.{Written}
 use Rattle.wire.specs.declared.Written.TheVariants.{At}

@@ -1,5 +1,5 @@
 -- A run that was read is in the table as records that are good, of its type and of tag 0, and they are written as its bytes.
-use Rattle.std.specs.Prelude.{ℕ, zero, suc, ◌+◌, ◌-◌, ◌*◌, ◌^◌, ◌≤◌, ◌<◌, ◌≡◌, refl, true, List, [], ◌∷◌, ◌++◌, length, drop}
+use Rattle.std.specs.Prelude.{ℕ, zero, suc, ◌*◌, ◌≤◌, ◌<◌, ◌≡◌, refl, List, [], ◌∷◌, ◌++◌, length, drop}
 use Rattle.std.proofs.Common.{ap, ◌∙◌, sym, arith, length-append, length-drop}
 use Rattle.wire.specs.Limits.{record_words, no_key}
 use Rattle.wire.specs.Numbers.{kind_of}
@@ -7,8 +7,8 @@ use Rattle.wire.specs.VarintLaws.{Bytes}
 use Rattle.wire.specs.Written.{content_kind}
 use Rattle.wire.specs.Places.{shown}
 use Rattle.wire.specs.Reading.{value_at}
-use Rattle.wire.specs.ReadingLaws.{value-moves, value-took}
-use Rattle.wire.specs.Table.{kind_word, room, record_at, good, key-none, head-key, record-behind, record-first}
+use Rattle.wire.proofs.ReadingLaws.{value-took}
+use Rattle.wire.specs.Table.{kind_word, room, record_at, key-none, head-key, record-behind, record-first}
 use Rattle.wire.specs.declared.WireType.{WireType}
 use Rattle.wire.specs.declared.Value.{Value}
 use Rattle.wire.specs.declared.Value.TheVariants as val

@@ -1,5 +1,5 @@
 -- The cases of the tests of a run's records, of their plan, and the laws of their bytes.
-use Prim.Native.Nat.{ℕ, zero, suc, ◌+◌, ◌-◌, ◌*◌, ◌^◌, ◌≤◌, ◌<◌}
+use Prim.Native.Nat.{ℕ, zero, suc, ◌+◌, ◌-◌, ◌≤◌, ◌<◌}
 use Rattle.std.proofs.Math.Path.{◌≡◌, refl, ap}
 use Rattle.std.proofs.Common.{◌∙◌, sym, suc-add, length-append}
 use Rattle.std.specs.Prelude.{Bool, leb, length}
@@ -17,11 +17,10 @@ use Rattle.wire.specs.declared.Weight.{Weight}
 use Rattle.wire.specs.declared.Weight.TheVariants as weight
 use Rattle.wire.specs.declared.Weighed.{Weighed}
 use Rattle.wire.specs.declared.Weighed.TheVariants as weighed
-use Rattle.write_record.specs.Records.{Judged, Fine, Bad, Verdict, AllFine, First, and_then, value_bytes, value_size, sized}
+use Rattle.write_record.specs.Records.{Judged, Fine, Bad, Verdict, AllFine, First, and_then, value_bytes, value_size}
 use Rattle.write_record.specs.RecordLaws.{Sound, good-sound}
-use Rattle.write_message.specs.Writing.{Plan, Writes, Refuses, passed, spent}
+use Rattle.write_message.specs.Writing.{Writes, Refuses, spent}
 use Rattle.write_message.specs.WritingLaws.{no-fine, passed-writes}
-use Rattle.run_read.specs.Packed.{run_written, contents, values_from}
 use Rattle.run_write.specs.RunPlan.{run_judge, run_weigh, run_tested, run_checked, stretch, run_bytes, run_plan}
 
 -- ---- one record

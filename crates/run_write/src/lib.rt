@@ -1,5 +1,7 @@
 // Packed runs, written: records tested and measured, then their values put one behind the other, without keys.
 // From src/encoding/opaque.rs (`packed`) of bilrost.
+#![tactic(auto)]
+
 ghost use Rattle.std.specs.Prelude.{◌≡◌, ◌+◌, ◌-◌, ◌≤◌, ◌<◌, ◌^◌, [], ◌∷◌, length};
 ghost use Rattle.std.proofs.lemmas.List.Edits.{sets};
 ghost use Rattle.place.specs.Spans.{Spans};

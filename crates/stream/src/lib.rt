@@ -1,11 +1,22 @@
 // What the programs share: files read in blocks one behind the other, text written out, counts said, and how a run ended.
 // A call that a signal interrupts is made again, and a write that takes a part goes on behind it.
-ghost use Rattle.std.specs.Prelude.{◌≡◌, ◌≤◌, length};
+#![tactic(auto)]
 
+ghost use Rattle.std.specs.Prelude.{◌≡◌, ◌≢◌, ◌≤◌, ◌<◌, ◌+◌, length, take, drop, map, slice_set, false, None, Some, IfSome, IfOk, IfErr, OnErr};
+ghost use Rattle.std.specs.IoError.{error_kind};
+ghost use Rattle.std.specs.Io.{ReadsAtMost, WritesAtMost};
+ghost use Rattle.std.specs.Io.KnownBytes.{Keeps, Consumes, Appends, WriteAppends, IsAtEnd};
+ghost use Rattle.stream.specs.Inputs.{kind_of, place_read};
+
+use std::alloc::Global;
+use std::env::{Env, FillError};
+use std::fs::{File, OpenOptions};
+use std::io::{ErrorKind, Read, Write};
+use std::{array, fs, io, str};
 use stream_orders::{Argument, Fault, Least, Orders, Wants};
 
 // What was read: bytes; a file's end; the end of the last file; a failure, which was said.
-#[derive(Drop)]
+#[derive(Clone, Copy)]
 pub enum Got {
     Bytes,
     FileEnd,
@@ -14,17 +25,33 @@ pub enum Got {
 }
 
 // Where reading stands: the argument whose file is read next, and what was read last.
-#[derive(Drop)]
+#[derive(Clone, Copy)]
 pub struct Source {
     pub file: usize,
     pub n: usize,
     pub got: Got,
 }
 
-// What to do, once all files are open; whether they are.
+// What an argument brings: nothing, an open file, or the standard input. A file is closed where it is let go.
 #[derive(Drop)]
+pub enum Input {
+    Nothing,
+    Named(File),
+    Standard,
+}
+
+// How much of a text was written, and where that is not all, why.
+#[derive(Clone, Copy)]
+pub struct Written {
+    pub n: usize,
+    pub error: Option<io::Error>,
+}
+
+// What to do, once all files are open; whether they are, and with which status the program ends if not.
+#[derive(Clone, Copy)]
 pub struct Start {
     pub ready: bool,
+    pub status_then: u8,
     pub count: bool,
     pub status: bool,
     pub second: bool,
@@ -34,24 +61,44 @@ pub struct Start {
 // The most arguments, the program's name among them.
 pub const ARGUMENTS: usize = 4_096;
 
-// The descriptor that a status is told to.
-const STATUS_FILENO: i32 = 3;
+// The statuses of a program that could not do all, and of one that SIGPIPE ended.
+const FAILED: u8 = 1;
 
-// The longest name of a file, and with it the longest name of what failed.
+const NOBODY_READS: u8 = 141;
+
+// Where a status is told: the file behind descriptor 3.
+const STATUS_FILE: &str = "/dev/fd/3";
+
+// The output, once more.
+const OUTPUT_FILE: &str = "/dev/fd/1";
+
+// The longest name of a file, and with it the longest line of what failed.
 const NAME: usize = 4_096;
 
-const LABEL: usize = 4_224;
+const LINE: usize = 4_480;
+
+// The system's reason for a name that is too long.
+const ENAMETOOLONG: i32 = 36;
 
 // ---- arguments
 
-fn argument_at(i: usize, o: Orders) -> Argument {
+// How many arguments there are, the program's name among them.
+fn argument_count(rt: &HostRuntime) -> usize {
     let mut word = [0u8; NAME];
-    let n = os::arg(i, &mut word);
-    let wants = o.wants;
-    if os::errno() != 0 {
-        return long_argument(wants);
+    for i in 0..usize::MAX {
+        if let Err(FillError::NotPresent) = rt.arg(i, &mut word) {
+            return i;
+        }
     }
-    stream_orders::argument_of(&word[0..n], o.names, wants)
+    usize::MAX
+}
+
+fn argument_at(rt: &HostRuntime, i: usize, o: Orders) -> Argument {
+    let mut word = [0u8; NAME];
+    match rt.arg(i, &mut word) {
+        Ok(n) => stream_orders::argument_of(&word[..n], o.names, o.wants),
+        Err(_) => long_argument(o.wants),
+    }
 }
 
 // An argument that is longer than any option is a name, and no edition and no grade.
@@ -64,89 +111,134 @@ fn long_argument(wants: Wants) -> Argument {
 
 // ---- what is said
 
-// What failed: the program's name, and the name of a file or of a standard stream. It is put before the call that may fail, since asking
-// for an argument changes the reason.
-fn put_label(label: &mut [u8], program: &[u8], i: usize, fd: i32) -> usize {
-    let p = place::put_part(label, 0, program, 0, program.len());
-    let q = place::put_part(label, p, b": ", 0, 2);
-    if fd == libc::STDIN_FILENO {
-        return place::put_part(label, q, b"standard input", 0, 14);
-    }
-    if fd == libc::STDOUT_FILENO {
-        return place::put_part(label, q, b"standard output", 0, 15);
-    }
-    if label.len() < q {
-        return q;
-    }
-    let n = os::arg(i, &mut label[q..]);
-    if os::errno() != 0 {
-        return place::put_part(label, q, b"an argument", 0, 11);
-    }
-    if label.len() - q < n {
-        return q;
-    }
-    q + n
+// What failed: a file, by its argument, or a standard stream.
+#[derive(Clone, Copy)]
+enum Failing {
+    Named(usize),
+    Input,
+    Output,
 }
 
-// Says what failed, and the system's reason.
-fn say_failed(label: &[u8], n: usize) {
-    if label.len() < n {
-        return;
-    }
-    os::fail(&label[0..n]);
+fn put_text(line: &mut [u8], at: usize, text: &[u8]) -> usize {
+    place::put_part(line, at, text, 0, text.len())
 }
 
-fn say(text: &[u8]) {
-    write_all(libc::STDERR_FILENO, text);
+fn put_name(rt: &HostRuntime, line: &mut [u8], at: usize, i: usize) -> usize {
+    let mut word = [0u8; NAME];
+    match rt.arg(i, &mut word) {
+        Ok(n) => place::put_part(line, at, &word, 0, n),
+        Err(_) => put_text(line, at, b"an argument"),
+    }
+}
+
+fn put_failing(rt: &HostRuntime, line: &mut [u8], at: usize, what: Failing) -> usize {
+    match what {
+        Failing::Named(i) => put_name(rt, line, at, i),
+        Failing::Input => put_text(line, at, b"standard input"),
+        Failing::Output => put_text(line, at, b"standard output"),
+    }
+}
+
+// An error's words, without the system's number behind them.
+fn put_words(line: &mut [u8], at: usize, text: &str) -> usize {
+    match text.split_once(" (os error ") {
+        Some((words, _)) => put_text(line, at, words.as_bytes()),
+        None => put_text(line, at, text.as_bytes()),
+    }
+}
+
+fn put_reason(line: &mut [u8], at: usize, alloc: Global, e: io::Error) -> usize {
+    match format!(in alloc; "{e}") {
+        Ok(text) => put_words(line, at, text.as_str()),
+        Err(_) => at,
+    }
+}
+
+// Says in one line what failed, and the system's reason.
+fn say_failed(rt: &HostRuntime, program: &[u8], what: Failing, e: io::Error) {
+    let mut line = [0u8; LINE];
+    let mut n = put_text(&mut line, 0, program);
+    n = put_text(&mut line, n, b": ");
+    n = put_failing(rt, &mut line, n, what);
+    n = put_text(&mut line, n, b": ");
+    n = put_reason(&mut line, n, rt.alloc(), e);
+    n = put_text(&mut line, n, b"\n");
+    if n <= LINE {
+        say(rt, &line[..n]);
+    }
+}
+
+fn say(rt: &HostRuntime, text: &[u8]) {
+    write_all(&mut rt.stderr(), text);
 }
 
 // Tells the exit status to whoever holds the descriptor for it, where the arguments asked for that.
-fn tell(status: bool, digit: &[u8]) {
+fn tell(rt: &HostRuntime, status: bool, digit: &[u8]) {
     if status {
-        write_all(STATUS_FILENO, digit);
+        if let Ok(mut held) = OpenOptions::new().write(true).open(rt, STATUS_FILE) {
+            write_all(&mut held, digit);
+        }
     }
 }
 
 // ---- reading
 
 // One read, made again where it was interrupted.
-pub fn read_block(fd: i32, block: &mut [u8]) -> isize
-    ensures { length block.new ≡ length block.old }
+pub fn read_block<R: Read>(reader: &mut R, block: &mut [u8]) -> io::Result<usize>
+    ensures same_length { length block.new ≡ length block.old }
+    ensures inside { ReadsAtMost result block.new }
+    ensures bytes { IfOk result (λ n. Consumes (R.remaining reader.old) (R.remaining reader.new) (take n block.new)) }
+    ensures end { IfOk result (λ n. n ≡ 0 → 0 < length block.old → IsAtEnd (R.remaining reader.new)) }
+    ensures kept { OnErr result (Keeps (R.remaining reader.old) (R.remaining reader.new)) }
+    ensures again { IfErr result (λ e. error_kind e ≢ ErrorKind.Interrupted) }
 {
-    let mut turns = u64::MAX;
-    while 0 < turns {
-        turns -= 1;
-        let got = libc::read(fd, block);
-        if 0 <= got {
-            return got;
-        }
-        if os::errno() != libc::EINTR {
-            return got;
+    for _ in 0..u64::MAX {
+        match reader.read(block) {
+            Ok(n) => return Ok(n),
+            Err(e) => {
+                if e.kind() != ErrorKind::Interrupted {
+                    return Err(e);
+                }
+            }
         }
     }
-    -1
+    Err(io::Error::from(ErrorKind::TimedOut))
 }
 
-fn read_named(program: &[u8], i: usize, fd: i32, block: &mut [u8]) -> isize {
-    let mut label = [0u8; LABEL];
-    let n = put_label(&mut label, program, i, fd);
-    let got = read_block(fd, block);
-    if got < 0 {
-        say_failed(&label, n);
+fn read_input(rt: &HostRuntime, input: &mut Input, block: &mut [u8]) -> io::Result<usize>
+    ensures inside { ReadsAtMost result block.new }
+    ensures kind { kind_of input.new ≡ kind_of input.old }
+{
+    match input {
+        Input::Nothing => Ok(0),
+        Input::Named(file) => read_block(file, block),
+        Input::Standard => read_block(&mut rt.stdin(), block),
     }
-    got
 }
 
-// The first argument from one on that has a descriptor; as many as there are where none has.
-fn next_file(files: &[i32], from: usize) -> usize {
-    let mut i = from;
-    while i < files.len() {
-        if 0 <= files[i] {
+fn is_nothing(input: &Input) -> bool {
+    match input {
+        Input::Nothing => true,
+        _ => false,
+    }
+}
+
+// The first argument from one on that brings an input; as many as there are where none does.
+fn next_file(files: &[Input], from: usize) -> usize {
+    for i in from..files.len() {
+        if !is_nothing(&files[i]) {
             return i;
         }
-        i += 1;
     }
     files.len()
+}
+
+// What a failure of an argument's input is called.
+fn failing_at(input: &Input, i: usize) -> Failing {
+    match input {
+        Input::Standard => Failing::Input,
+        _ => Failing::Named(i),
+    }
 }
 
 // Nothing is read yet.
@@ -160,9 +252,21 @@ pub fn from_the_first() -> Source
     }
 }
 
-// The next block: the bytes that one read of the present file brings, or that it is at its end.
-pub fn next_block(program: &[u8], files: &[i32], block: &mut [u8], s: Source) -> Source
-    ensures { result.n ≤ length block.new }
+// The next block: the bytes that one read of the present file brings, or that it is at its end. What the other arguments bring stays as it is, and that of the
+// file that was read is of the same kind, but nothing behind the file's end.
+pub fn next_block(
+    rt: &HostRuntime,
+    program: &[u8],
+    files: &mut [Input],
+    block: &mut [u8],
+    s: Source,
+) -> Source
+    ensures inside { result.n ≤ length block.new }
+    ensures same_length { length files.new ≡ length files.old }
+    ensures before { take (place_read result) files.new ≡ take (place_read result) files.old }
+    ensures after { drop (place_read result + 1) files.new ≡ drop (place_read result + 1) files.old }
+    ensures kinds { result.got ≢ Got.FileEnd → map kind_of files.new ≡ map kind_of files.old }
+    ensures gone { result.got ≡ Got.FileEnd → files.new ≡ slice_set files.old (place_read result) Input.Nothing }
 {
     let i = next_file(files, s.file);
     if files.len() <= i {
@@ -172,87 +276,124 @@ pub fn next_block(program: &[u8], files: &[i32], block: &mut [u8], s: Source) ->
             got: Got::End,
         };
     }
-    let fd = files[i];
-    let got = read_named(program, i, fd, block);
-    if got < 0 {
-        return Source {
+    match read_input(rt, &mut files[i], block) {
+        Err(e) => {
+            say_failed(rt, program, failing_at(&files[i], i), e);
+            Source {
+                file: i,
+                n: 0,
+                got: Got::Failed,
+            }
+        }
+        Ok(0) => {
+            files[i] = Input::Nothing;
+            Source {
+                file: i + 1,
+                n: 0,
+                got: Got::FileEnd,
+            }
+        }
+        Ok(n) => Source {
             file: i,
-            n: 0,
-            got: Got::Failed,
-        };
-    }
-    if got < 1 {
-        libc::close(fd);
-        return Source {
-            file: i + 1,
-            n: 0,
-            got: Got::FileEnd,
-        };
-    }
-    Source {
-        file: i,
-        n: io::count(got, block),
-        got: Got::Bytes,
+            n,
+            got: Got::Bytes,
+        },
     }
 }
 
 // ---- writing
 
-// Writes a text; how much of it was written, which is less than all where a write took nothing or failed.
-pub fn write_all(fd: i32, text: &[u8]) -> usize
-    ensures { result ≤ length text.now }
+// One write, made again where it was interrupted.
+fn write_some<W: Write>(writer: &mut W, text: &[u8]) -> io::Result<usize>
+    ensures inside { WritesAtMost result text.now }
+    ensures bytes { WriteAppends (W.contents writer.old) (W.contents writer.new) result text.now }
+    ensures again { IfErr result (λ e. error_kind e ≢ ErrorKind.Interrupted) }
 {
-    let mut at = 0;
-    let mut turns = u64::MAX;
-    while at < text.len() {
-        if turns < 1 {
-            return at;
-        }
-        turns -= 1;
-        let rest = &text[at..];
-        let put = libc::write(fd, rest);
-        if put < 1 {
-            if os::errno() != libc::EINTR {
-                return at;
+    for _ in 0..u64::MAX {
+        match writer.write(text) {
+            Ok(n) => return Ok(n),
+            Err(e) => {
+                if e.kind() != ErrorKind::Interrupted {
+                    return Err(e);
+                }
             }
         }
-        at += io::count(put, rest);
     }
-    at
+    Err(io::Error::from(ErrorKind::TimedOut))
 }
 
-// Writes a text to the standard output; how much of it was written. A failure is said, but for a pipe that nobody reads any more.
-pub fn write_out(program: &[u8], text: &[u8]) -> usize
-    ensures { result ≤ length text.now }
+fn stopped(n: usize, e: io::Error) -> Written
+    ensures { result ≡ record { n = n; error = Some e } }
 {
-    let n = write_all(libc::STDOUT_FILENO, text);
-    if n < text.len() {
-        if os::errno() != libc::EPIPE {
-            fail_output(program);
+    Written { n, error: Some(e) }
+}
+
+// Writes a text, as much of it as the writer takes.
+pub fn write_all<W: Write>(writer: &mut W, text: &[u8]) -> Written
+    ensures part { result.n ≤ length text.now }
+    ensures bytes { Appends (W.contents writer.old) (W.contents writer.new) (take result.n text.now) }
+    ensures whole { result.error ≡ None → result.n ≡ length text.now }
+    ensures again { IfSome result.error (λ e. error_kind e ≢ ErrorKind.Interrupted) }
+{
+    let mut at = 0;
+    while at < text.len() {
+        let rest = &text[at..];
+        match write_some(writer, rest) {
+            Ok(0) => return stopped(at, io::Error::from(ErrorKind::WriteZero)),
+            Ok(n) => at += n,
+            Err(e) => return stopped(at, e),
         }
     }
-    n
+    Written { n: at, error: None }
 }
 
-// Says that the standard output failed. No argument is asked for, so the reason stays.
-fn fail_output(program: &[u8]) {
-    let mut label = [0u8; LABEL];
-    let n = put_label(&mut label, program, 0, libc::STDOUT_FILENO);
-    say_failed(&label, n);
+// Writes a text to the standard output. A failure is said, but for a pipe that nobody reads any more.
+pub fn write_out(rt: &HostRuntime, program: &[u8], text: &[u8]) -> Written
+    ensures part { result.n ≤ length text.now }
+    ensures whole { result.error ≡ None → result.n ≡ length text.now }
+{
+    let written = write_all(&mut rt.stdout(), text);
+    if let Some(e) = written.error {
+        if e.kind() != ErrorKind::BrokenPipe {
+            say_failed(rt, program, Failing::Output, e);
+        }
+    }
+    written
+}
+
+// The status that a program ends with behind a write: 0 where all was written, that of SIGPIPE where nobody reads the output any more, else 1.
+// The runtime ignores that signal, so a program has to end by itself.
+pub fn status_of(w: Written) -> u8
+    ensures whole { w.error ≡ None → result ≡ 0 }
+    ensures failed { result ≡ 0 → w.error ≡ None }
+    ensures unread { IfSome w.error (λ e. error_kind e ≡ ErrorKind.BrokenPipe → result ≡ 141) }
+{
+    match w.error {
+        None => 0,
+        Some(e) => if e.kind() == ErrorKind::BrokenPipe {
+            NOBODY_READS
+        } else {
+            FAILED
+        },
+    }
 }
 
 // ---- a run
 
-// A descriptor for each argument; where there is none, -1.
-pub fn no_files() -> [i32; ARGUMENTS]
+// What each argument brings: nothing yet.
+pub fn no_files() -> [Input; ARGUMENTS]
     ensures { 4096 ≡ length result }
 {
-    [-1; ARGUMENTS]
+    array::from_fn(|_| Input::Nothing)
 }
 
-fn not_ready() -> Start {
+fn not_ready(status_then: u8) -> Start
+    ensures waits { result.ready ≡ false }
+    ensures status { result.status_then ≡ status_then }
+{
     Start {
         ready: false,
+        status_then,
         count: false,
         status: false,
         second: false,
@@ -261,109 +402,118 @@ fn not_ready() -> Start {
 }
 
 // Ends what is said of arguments that are refused: how the program is called, and the status.
-fn refuse(program: &[u8], editions: bool, status: bool) -> Start {
-    say(b"\nusage: ");
-    say(program);
-    say(b" [--count]");
+fn refuse(rt: &HostRuntime, program: &[u8], editions: bool, status: bool) -> Start
+    ensures waits { result.ready ≡ false }
+    ensures status { result.status_then ≡ 2 }
+{
+    say(rt, b"\nusage: ");
+    say(rt, program);
+    say(rt, b" [--count]");
     if editions {
-        say(b" [--edition 1|2] [--least canonical|extensions|any]");
+        say(rt, b" [--edition 1|2] [--least canonical|extensions|any]");
     }
-    say(b" [FILE..]\n");
-    tell(status, b"2");
-    not_ready()
+    say(rt, b" [FILE..]\n");
+    tell(rt, status, b"2");
+    not_ready(2)
 }
 
 // Says what there is not.
-fn say_none(wants: Wants) {
+fn say_none(rt: &HostRuntime, wants: Wants) {
     match wants {
-        Wants::Nothing => say(b": there is no option "),
-        Wants::Edition => say(b": there is no edition "),
-        Wants::Grade => say(b": there is no grade "),
+        Wants::Nothing => say(rt, b": there is no option "),
+        Wants::Edition => say(rt, b": there is no edition "),
+        Wants::Grade => say(rt, b": there is no grade "),
     }
 }
 
-fn refuse_word(program: &[u8], editions: bool, i: usize, o: Orders) -> Start {
+fn refuse_word(rt: &HostRuntime, program: &[u8], editions: bool, i: usize, o: Orders) -> Start
+    ensures waits { result.ready ≡ false }
+    ensures status { result.status_then ≡ 2 }
+{
     let mut word = [0u8; NAME];
-    let n = os::arg(i, &mut word);
-    let wants = o.wants;
-    say(program);
-    say_none(wants);
-    say(&word[0..n]);
-    refuse(program, editions, o.status)
+    say(rt, program);
+    say_none(rt, o.wants);
+    if let Ok(n) = rt.arg(i, &mut word) {
+        say(rt, &word[..n]);
+    }
+    refuse(rt, program, editions, o.status)
 }
 
 // Says what is wrong with the arguments together.
-fn say_fault(fault: Fault) {
+fn say_fault(rt: &HostRuntime, fault: Fault) {
     match fault {
         Fault::Nothing => {}
-        Fault::NoEdition => say(b": behind --edition there has to be 1 or 2"),
-        Fault::NoGrade => say(b": behind --least there has to be canonical, extensions or any"),
-        Fault::LeastAlone => say(b": --least is for --edition 2"),
+        Fault::NoEdition => say(rt, b": behind --edition there has to be 1 or 2"),
+        Fault::NoGrade => say(
+            rt,
+            b": behind --least there has to be canonical, extensions or any",
+        ),
+        Fault::LeastAlone => say(rt, b": --least is for --edition 2"),
     }
 }
 
-fn refuse_all(program: &[u8], editions: bool, fault: Fault, status: bool) -> Start {
-    say(program);
-    say_fault(fault);
-    refuse(program, editions, status)
+fn refuse_all(rt: &HostRuntime, program: &[u8], editions: bool, fault: Fault, status: bool) -> Start
+    ensures waits { result.ready ≡ false }
+    ensures status { result.status_then ≡ 2 }
+{
+    say(rt, program);
+    say_fault(rt, fault);
+    refuse(rt, program, editions, status)
 }
 
-fn refuse_number(program: &[u8]) -> Start {
-    say(program);
-    say(b": there are too many arguments\n");
-    not_ready()
+fn refuse_number(rt: &HostRuntime, program: &[u8]) -> Start
+    ensures waits { result.ready ≡ false }
+    ensures status { result.status_then ≡ 1 }
+{
+    say(rt, program);
+    say(rt, b": there are too many arguments\n");
+    not_ready(1)
 }
 
-fn open_named(program: &[u8], i: usize) -> i32 {
-    let mut label = [0u8; LABEL];
+// std opens a file by a name that is text.
+fn open_file(rt: &HostRuntime, name: &[u8]) -> io::Result<File> {
+    match str::from_utf8(name) {
+        Ok(path) => File::open(rt, path),
+        Err(_) => Err(io::Error::new(
+            ErrorKind::InvalidFilename,
+            "the name of a file has to be UTF-8",
+        )),
+    }
+}
+
+fn open_named(rt: &HostRuntime, i: usize) -> io::Result<File> {
     let mut word = [0u8; NAME];
-    let m = put_label(&mut label, program, i, -1);
-    let n = os::arg(i, &mut word);
-    if os::errno() != 0 {
-        say_failed(&label, m);
-        return -1;
-    }
-    let fd = os::open_read(&word[0..n]);
-    if fd < 0 {
-        say_failed(&label, m);
-    }
-    fd
-}
-
-// The descriptor for an argument: that of its file, that of the standard input, or none; and whether a file could not be opened.
-fn descriptor_for(program: &[u8], i: usize, a: Argument) -> i32 {
-    match a {
-        Argument::File => open_named(program, i),
-        Argument::Input => libc::STDIN_FILENO,
-        _ => -1,
+    match rt.arg(i, &mut word) {
+        Ok(n) => open_file(rt, &word[..n]),
+        Err(_) => Err(io::Error::from_raw_os_error(ENAMETOOLONG)),
     }
 }
 
-fn is_file(a: Argument) -> bool {
+// What an argument brings; its file is opened.
+fn input_for(rt: &HostRuntime, i: usize, a: Argument) -> io::Result<Input> {
     match a {
-        Argument::File => true,
-        _ => false,
+        Argument::File => Ok(Input::Named(open_named(rt, i)?)),
+        Argument::Input => Ok(Input::Standard),
+        _ => Ok(Input::Nothing),
     }
 }
 
 // Opens every file that the arguments name; false at the first that cannot be opened.
-fn open_files(program: &[u8], files: &mut [i32], count: usize) -> bool {
+fn open_files(rt: &HostRuntime, program: &[u8], files: &mut [Input], count: usize) -> bool {
     let mut o = stream_orders::no_orders();
-    let mut i = 1;
-    while i < count {
+    for i in 1..count {
         if files.len() <= i {
             return false;
         }
-        let a = argument_at(i, o);
-        let fd = descriptor_for(program, i, a);
-        if fd < 0 {
-            if is_file(a) {
+        let a = argument_at(rt, i, o);
+        match input_for(rt, i, a) {
+            Ok(input) => files[i] = input,
+            Err(e) => {
+                say_failed(rt, program, Failing::Named(i), e);
                 return false;
             }
         }
-        files[i] = fd;
         o = stream_orders::ordered(o, a);
-        i += 1;
     }
     if !o.named {
         return use_input(files);
@@ -372,11 +522,11 @@ fn open_files(program: &[u8], files: &mut [i32], count: usize) -> bool {
 }
 
 // Without a file the standard input is read, in the place of the program's name.
-fn use_input(files: &mut [i32]) -> bool {
+fn use_input(files: &mut [Input]) -> bool {
     if files.len() < 1 {
         return false;
     }
-    files[0] = libc::STDIN_FILENO;
+    files[0] = Input::Standard;
     true
 }
 
@@ -398,97 +548,107 @@ fn is_good(fault: Fault) -> bool {
 }
 
 // Opens all files, for arguments that are good.
-fn open_orders(program: &[u8], files: &mut [i32], count: usize, o: Orders) -> Start
-    ensures { length files.new ≡ length files.old }
+fn open_orders(
+    rt: &HostRuntime,
+    program: &[u8],
+    files: &mut [Input],
+    count: usize,
+    o: Orders,
+) -> Start
+    ensures same_length { length files.new ≡ length files.old }
+    ensures failed { result.ready ≡ false → 1 ≤ result.status_then }
 {
     if files.len() < count {
-        return refuse_number(program);
+        return refuse_number(rt, program);
     }
-    let least = o.least;
     Start {
-        ready: open_files(program, files, count),
+        ready: open_files(rt, program, files, count),
+        status_then: 1,
         count: o.count,
         status: o.status,
         second: o.second,
-        least: least,
+        least: o.least,
     }
 }
 
 // Reads the arguments, opens all files, and says why there is nothing to do where that fails.
-pub fn open_all(program: &[u8], files: &mut [i32], editions: bool) -> Start
-    ensures { length files.new ≡ length files.old }
+pub fn open_all(rt: &HostRuntime, program: &[u8], files: &mut [Input], editions: bool) -> Start
+    ensures same_length { length files.new ≡ length files.old }
+    ensures failed { result.ready ≡ false → 1 ≤ result.status_then }
 {
-    let count = os::arg_count();
+    let count = argument_count(rt);
     let mut o = stream_orders::no_orders();
-    let mut i = 1;
-    while i < count {
-        let a = argument_at(i, o);
+    for i in 1..count {
+        let a = argument_at(rt, i, o);
         if is_unknown(a, editions) {
-            return refuse_word(program, editions, i, o);
+            return refuse_word(rt, program, editions, i, o);
         }
         o = stream_orders::ordered(o, a);
-        i += 1;
     }
     let fault = stream_orders::fault_of(o);
     if !is_good(fault) {
-        return refuse_all(program, editions, fault, o.status);
+        return refuse_all(rt, program, editions, fault, o.status);
     }
-    open_orders(program, files, count, o)
+    open_orders(rt, program, files, count, o)
 }
 
-// Ends a run in which all was read and written: the output is closed, and the status told. It is 1 where closing failed.
-pub fn finish(program: &[u8], s: Start) -> u8
+// A write of nothing fails where there is no output. std closes no standard stream, and some file systems tell a full disk only when a file is closed or
+// synced: so an output that is a file, and may be opened, is synced.
+fn settle_output(rt: &HostRuntime) -> io::Result<()> {
+    write_some(&mut rt.stdout(), b"")?;
+    if is_file_at(rt, OUTPUT_FILE) {
+        if let Ok(out) = File::open(rt, OUTPUT_FILE) {
+            return out.sync_data();
+        }
+    }
+    Ok(())
+}
+
+fn is_file_at(rt: &HostRuntime, path: &str) -> bool {
+    match fs::metadata(rt, path) {
+        Ok(found) => found.is_file(),
+        Err(_) => false,
+    }
+}
+
+// Ends a run in which all was read and written: the output is settled, and the status told. It is 1 where that failed.
+pub fn finish(rt: &HostRuntime, program: &[u8], s: Start) -> u8
     ensures { result ≤ 1 }
 {
-    if libc::close(libc::STDOUT_FILENO) < 0 {
-        fail_output(program);
+    if let Err(e) = settle_output(rt) {
+        say_failed(rt, program, Failing::Output, e);
         return 1;
     }
-    tell(s.status, b"0");
+    tell(rt, s.status, b"0");
     0
 }
 
 // ---- counting
 
-fn say_count(n: usize, what: &[u8]) {
-    io::print_decimal(libc::STDERR_FILENO, n as u64);
-    say(what);
-}
-
 // Says how many frames were read, and how many of each verdict there were; how many verdicts there were.
-pub fn say_counts(frames: usize, tally: &[usize]) -> usize
+pub fn say_counts(rt: &HostRuntime, frames: usize, tally: &[usize]) -> usize
     ensures { result ≤ length tally.now }
 {
-    say_count(frames, b" frames\n");
+    let _ = eprintln!(rt; "{frames} frames");
     let mut said = 0;
-    let mut v = 0;
-    while v < tally.len() {
-        said += say_verdict(v, tally[v]);
-        v += 1;
+    for v in 0..tally.len() {
+        said += say_verdict(rt, v, tally[v]);
     }
     said
 }
 
 // A line in the words of the dump, where there is a frame; 1 if there is.
-fn say_verdict(v: usize, n: usize) -> usize
+fn say_verdict(rt: &HostRuntime, v: usize, n: usize) -> usize
     ensures { result ≤ 1 }
 {
     if n < 1 {
         return 0;
     }
-    if v < 1 {
-        say_count(n, b" OK\n");
-        return 1;
-    }
-    if v == stream_orders::LONG {
-        say_count(n, b" LONG\n");
-        return 1;
-    }
-    if v == stream_orders::HEX {
-        say_count(n, b" HEX\n");
-        return 1;
-    }
-    say_count(n, b" NO ");
-    say_count(v, b"\n");
+    let _ = match v {
+        0 => eprintln!(rt; "{n} OK"),
+        stream_orders::LONG => eprintln!(rt; "{n} LONG"),
+        stream_orders::HEX => eprintln!(rt; "{n} HEX"),
+        _ => eprintln!(rt; "{n} NO {v}"),
+    };
     1
 }

@@ -1,11 +1,13 @@
 // What a run of a program is asked for, word by word, and frames counted by their verdict.
+#![tactic(auto)]
+
 ghost use Rattle.std.specs.Prelude.{◌≡◌};
 ghost use Rattle.stream_orders.specs.Arguments.{alike, dashed, option_of, plain_of, edition_of, grade_of, argument_of};
 ghost use Rattle.stream_orders.specs.Orders.{no_orders, naming, counting, telling, listing, wanting, choosing, taking, ordered_by, least_alone, fault_of};
 ghost use Rattle.stream_orders.specs.Counting.{counted};
 
 // The least grade that is asked for.
-#[derive(Drop)]
+#[derive(Clone, Copy)]
 pub enum Least {
     Unsaid,
     Any,
@@ -15,7 +17,7 @@ pub enum Least {
 
 // What an argument is: a file's name; the standard input; an option; that all that follow are names; whether it is the second edition, and a
 // least grade, behind the options that want them; none of these.
-#[derive(Drop)]
+#[derive(Clone, Copy)]
 pub enum Argument {
     File,
     Input,
@@ -30,7 +32,7 @@ pub enum Argument {
 }
 
 // What the next argument has to be: anything, an edition, a grade.
-#[derive(Drop)]
+#[derive(Clone, Copy)]
 pub enum Wants {
     Nothing,
     Edition,
@@ -39,7 +41,7 @@ pub enum Wants {
 
 // What the arguments so far ask for: to count, to tell the status; whether a file is named, and whether all that follow are names; whether the second
 // edition, and which least grade; and what the next one has to be.
-#[derive(Drop)]
+#[derive(Clone, Copy)]
 pub struct Orders {
     pub count: bool,
     pub status: bool,
@@ -51,7 +53,7 @@ pub struct Orders {
 }
 
 // What is wrong with all arguments together: nothing; the last one wants an edition behind it, or a grade; a least grade without the second edition.
-#[derive(Drop)]
+#[derive(Clone, Copy)]
 pub enum Fault {
     Nothing,
     NoEdition,

@@ -1,11 +1,13 @@
 // Numbers and bytes put as digits at a place of a lent buffer. Each put answers the place after what it put; where that has no room, the place
 // given, and nothing is written.
+#![tactic(auto)]
+
 ghost use Rattle.std.specs.Prelude.{◌≡◌, ◌≤◌, ◌<◌};
 ghost use Rattle.place.specs.Place.{put_at};
 ghost use Rattle.text_digits.specs.Digits.{digits, places_to, decimal, hexed};
 ghost use Rattle.text_digits.specs.Digits.{glyph as Digits·glyph};
 
-#[derive(Drop)]
+#[derive(Clone, Copy)]
 pub enum Digit {
     Value(u8),
     Other,

@@ -9,8 +9,9 @@ use lib.Dec.{leb}
 use lib.ListN.{length, take, drop, length-take}
 use Rattle.wire.specs.Limits.{record_words}
 use Rattle.wire.specs.Faults.{nowhere}
-use Rattle.wire.specs.Marks.{Mark, marks, fields_of, marks-fields, marks-count}
-use Rattle.wire.specs.MarkLaws.{marks-rise}
+use Rattle.wire.specs.Marks.{Mark, marks, fields_of}
+use Rattle.wire.proofs.Marks.{marks-fields, marks-count}
+use Rattle.wire.proofs.MarkLaws.{marks-rise}
 use Rattle.wire.specs.Reading.{Message, Fields, read_message}
 use Rattle.wire.specs.Reading as reading
 use Rattle.wire.specs.Table.{room, filled}
@@ -32,7 +33,7 @@ use Rattle.text_frames.specs.Text.{told}
 use Rattle.text_frames.specs.Room.{AllInside, sized, told_none}
 use Rattle.text_frames.specs.Print.{frame_room, answer_text, outcome_text, Roomy, all-kept, Closed, Framable, Messaged, shows, frame_printing}
 use Rattle.text_frames.specs.Print.{print_frame, print-frame}
-use Rattle.text_frames.specs.PrintLaws.{outcome-size}
+use Rattle.text_frames.proofs.PrintLaws.{outcome-size}
 
 -- ---- an accepted answer is that of fields
 

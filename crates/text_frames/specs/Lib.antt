@@ -2,6 +2,5 @@ pub mod Text
 pub mod Room
 pub mod Dump
 pub mod Print
-pub mod PrintLaws
 pub mod Cases
 pub mod DumpLaws

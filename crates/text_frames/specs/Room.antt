@@ -5,8 +5,10 @@ use Rattle.wire.specs.Fixed.{fixed, length-fixed}
 use Rattle.wire.specs.Written.{Item, content_kind}
 use Rattle.wire.specs.Places.{shown, item_of, items}
 use Rattle.wire.specs.Reading.{capped_at, varint_at, value_at, field_at, Fields, reads_from, read_message}
-use Rattle.wire.specs.ReadingLaws.{varint-moves, number-got, payload-got, within-got, value-moves, content-kind-below, field_found_lem, field-moves}
-use Rattle.wire.specs.Theorem.{Stands, none, some, ended-fields, stands}
+use Rattle.wire.specs.ReadingLaws.{number-got, payload-got, within-got, content-kind-below}
+use Rattle.wire.proofs.ReadingLaws.{varint-moves, value-moves, field_found_lem, field-moves}
+use Rattle.wire.specs.Theorem.{Stands, none, some, ended-fields}
+use Rattle.wire.proofs.Theorem.{stands}
 use Rattle.wire.specs.declared.WireType.{WireType}
 use Rattle.wire.specs.declared.WireType.TheVariants as wire_type
 use Rattle.wire.specs.declared.Value.{Value}

@@ -1,4 +1,6 @@
 // What is printed of a frame, put into a buffer for the output.
+#![tactic(auto)]
+
 ghost use Rattle.std.specs.Prelude.{◌≡◌, [], ◌∷◌, ◌++◌, ◌+◌, ◌*◌, ◌≤◌, length};
 ghost use Rattle.wire.specs.Fixed.{fixed};
 ghost use Rattle.wire.specs.Places.{shown, item_of, items};

@@ -1,4 +1,6 @@
 // A line's characters read as bytes, two digits a byte.
+#![tactic(auto)]
+
 ghost use Rattle.std.specs.Prelude.{◌≡◌, ◌*◌, ◌≤◌, max, length, take};
 ghost use Rattle.std.proofs.lemmas.List.Edits.{sets};
 ghost use Rattle.wire.specs.Choose.{choose};
@@ -12,7 +14,7 @@ use text_digits::Digit;
 pub const LINE_LIMIT: usize = 4_096;
 
 // The number of bytes, or why there are none: too many characters, or characters that are no bytes.
-#[derive(Drop)]
+#[derive(Clone, Copy)]
 pub enum Frame {
     Bytes(usize),
     Long,

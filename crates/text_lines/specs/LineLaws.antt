@@ -177,7 +177,8 @@ keeps-one {line} {chars} {ks} c w =
 keeps-all : {line : List ℕ} {chars : ℕ} {ks : List ℕ} (xs : List ℕ) → Keeps line chars ks → Keeps (kept_line line chars xs) (kept_count chars xs) (ks ++ xs)
 keeps-all {line} {chars} {ks} [] w = rw (append-nil ks) w
 keeps-all {line} {chars} {ks} (c ∷ xs) w =
-    subst (Keeps (kept_line line chars (c ∷ xs)) (kept_count chars (c ∷ xs))) (append_assoc ks (c ∷ []) xs) (keeps-all xs (keeps-one c w))
+    subst (Keeps (kept_line line chars (c ∷ xs)) (kept_count chars (c ∷ xs))) (append_assoc ks (c ∷ []) xs)
+    (keeps-all {line = set line chars c} {chars = count_up chars} {ks = ks ++ c ∷ []} xs (keeps-one c w))
 
 kept-length : (line : List ℕ) (n : ℕ) (xs : List ℕ) → length (kept_line line n xs) ≡ length line
 kept-length line n [] = refl

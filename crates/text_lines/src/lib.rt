@@ -1,11 +1,13 @@
 // Lines of characters, taken from blocks of input.
+#![tactic(auto)]
+
 ghost use Rattle.std.specs.Prelude.{◌≡◌, set, true};
 ghost use Rattle.text_lines.specs.Lines.{take_line, count_up};
 ghost use Rattle.text_lines.specs.LineLaws.{Clear};
 ghost use Rattle.text_lines.specs.Steps.{Plain, step_size};
 
 // A whole line: the place after its LF, and its characters. Or the characters of the part that a block ends in.
-#[derive(Drop)]
+#[derive(Clone, Copy)]
 pub enum Taken {
     Line(usize, usize),
     Part(usize),

@@ -1,4 +1,6 @@
 // Varints read at a place of a slice. From src/encoding/mod.rs (the looped twins of the varint functions, `Capped::decode_varint`) of bilrost.
+#![tactic(auto)]
+
 ghost use Rattle.std.specs.Prelude.{◌≡◌, ◌≤◌, ◌<◌, length, get_or};
 ghost use Rattle.wire.specs.Reading.{varint_at, capped_at};
 

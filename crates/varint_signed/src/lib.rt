@@ -1,4 +1,6 @@
 // The signed mapping. From src/encoding/varint.rs of bilrost.
+#![tactic(auto)]
+
 ghost use Rattle.std.specs.Prelude.{◌≡◌};
 ghost use Rattle.wire.specs.Signed.{to_unsigned, to_signed};
 

@@ -12,7 +12,8 @@ use lib.Pow.{pow-add}
 use lib.Count.{count_leading_zeros, leading_top}
 use lib.ListN.{length}
 use Rattle.wire.specs.Varint.{encode}
-use Rattle.wire.specs.VarintLength.{limit, limit-four, length_at, length-top}
+use Rattle.wire.specs.VarintLength.{limit, limit-four}
+use Rattle.wire.proofs.VarintLength.{length_at, length-top}
 
 -- ---- between two limits, between two powers
 

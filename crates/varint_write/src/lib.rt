@@ -1,5 +1,7 @@
 // Varints measured, put at a place of a buffer, prepended to one. From src/encoding/mod.rs (the looped twins of the varint functions) of
 // bilrost.
+#![tactic(auto)]
+
 ghost use Rattle.std.specs.Prelude.{◌≡◌, ◌+◌, ◌≤◌, ◌<◌, length};
 ghost use Rattle.std.proofs.lemmas.List.Edits.{sets};
 ghost use Rattle.wire.specs.Varint.{encode};

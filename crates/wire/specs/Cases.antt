@@ -34,7 +34,7 @@ All P [] = Unit {0}
 All P (x ∷ xs) = P x × All P xs
 
 -- numbers
-abbrev numbers : List Case
+abbrev pub numbers : List Case
 numbers =
     Encodes 127 (0x7f ∷ [])
     ∷ Encodes 128 (0x80 ∷ 0x00 ∷ [])
@@ -47,7 +47,7 @@ numbers =
     ∷ []
 
 -- messages, and fields passed over
-abbrev messages : List Case
+abbrev pub messages : List Case
 messages =
     Reads [] 0 0 (Fields [])
     ∷ Reads (0xfc ∷ 0xfe ∷ 0xfe ∷ 0xfe ∷ 0x3e ∷ 0x00 ∷ []) 0 6 (Fields (record { tag = 4294967295; value = val.Varint 0 } ∷ []))
@@ -63,7 +63,7 @@ messages =
     ∷ []
 
 -- a case each for rules of the end, of fixed bytes, of skipping and of places
-abbrev edges : List Case
+abbrev pub edges : List Case
 edges =
     Reads (0x00 ∷ replicate 9 0xff) 0 9 (Refused Truncated 0)
     ∷ Reads (0x01 ∷ 0x00 ∷ []) 0 2 (Fields (record { tag = 0; value = val.LengthDelimited 2 0 } ∷ []))
@@ -88,22 +88,18 @@ abbrev pub table : List Case
 table = numbers ++ (messages ++ edges)
 
 -- what holds of two lists holds of both in one
-joined : (xs ys : List Case) → All Right xs → All Right ys → All Right (xs ++ ys)
+pub joined : (xs ys : List Case) → All Right xs → All Right ys → All Right (xs ++ ys)
 joined [] ys h g = g
 joined (x ∷ xs) ys h g = (h.0, joined xs ys h.1 g)
 
-numbers-right : All Right numbers
+pub numbers-right : All Right numbers
 unfolding encode varint_at field_at read_message looks past_at skip_at
 numbers-right = ((refl, refl), ((refl, refl), ((refl, refl), ((refl, refl), ((refl, refl), ((refl, refl), ((refl, refl), (refl, tt))))))))
 
-messages-right : All Right messages
+pub messages-right : All Right messages
 unfolding encode varint_at field_at read_message looks past_at skip_at
 messages-right = (refl, (refl, (refl, (refl, (refl, (refl, (refl, (refl, (refl, (refl, (refl, tt)))))))))))
 
-edges-right : All Right edges
+pub edges-right : All Right edges
 unfolding encode varint_at field_at read_message looks past_at skip_at
 edges-right = (refl, (refl, (refl, (refl, (refl, (refl, (refl, (refl, (refl, (refl, (refl, (refl, (refl, (refl, (refl, (refl, (refl, tt)))))))))))))))))
-
--- THE CASES ARE RIGHT: each is computed
-pub cases : All Right table
-cases = joined numbers (messages ++ edges) numbers-right (joined messages edges messages-right edges-right)

@@ -2,7 +2,6 @@
 use Rattle.std.specs.Prelude.{ℕ, zero, suc, ◌^◌, ◌≤◌, ◌<◌, ◌≡◌, refl, Bool, true, false, List, [], ◌∷◌, ltb}
 use Rattle.std.proofs.Common.{ltb-true, ltb-false}
 use Rattle.wire.specs.Reading.{field_at}
-use Rattle.wire.specs.ReadingLaws.{field-moves}
 use Rattle.wire.specs.Marks.{Mark, marks_from, marks-turn, marks-end}
 use Rattle.wire.specs.declared.Field.{Field}
 use Rattle.wire.specs.declared.FieldFound.{FieldFound}
@@ -27,11 +26,3 @@ marked k s e p last = go (ltb p e) refl (field_at s e p last) refl
     go false b o x = none (marks-end s e p last (suc k) (ltb-false p e b))
     go true b (field_found.Refused r) x = none (rw (b, x))
     go true b (field_found.Got f q) x = let a = ltb-true p e b in some f q a x (marks-turn s e p last k f q a x)
-
-pub marks-rise : (k : ℕ) (s : List ℕ) (e p last : ℕ) → Rising e last (marks_from k s e p last)
-marks-rise zero s e p last = tt
-marks-rise (suc k) s e p last = go (marked k s e p last) (λ q t. marks-rise k s e q t)
-  where
-    go : Marked k s e p last → ((q t : ℕ) → Rising e t (marks_from k s e q t)) → Rising e last (marks_from (suc k) s e p last)
-    go (none x) ih = rw x tt
-    go (some f q a x y) ih = let v = field-moves s e p last f q x in rw y (v.2, v.3, a, ih q f.tag)

@@ -19,7 +19,3 @@ wire-kind Varint = refl
 wire-kind LengthDelimited = refl
 wire-kind ThirtyTwoBit = refl
 wire-kind SixtyFourBit = refl
-
--- A KEY IS MEASURED WITHOUT ITS TYPE (rule K5): all limits are multiples of four, so the type never changes the length
-pub key-length : (d : ℕ) (w : WireType) → length (encode (4 * d + kind_of w)) ≡ length (encode (4 * d))
-key-length d w = length-four d (kind_of w) (kind-below w)

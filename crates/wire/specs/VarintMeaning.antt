@@ -3,7 +3,7 @@ use Rattle.std.specs.Prelude.{ℕ, zero, suc, ◌+◌, ◌-◌, ◌*◌, ◌/◌
 use Rattle.std.proofs.Common.{ap, ◌∙◌, sym, append-nil, inl, inr, arith, pow-suc, ltb-true, ltb-false, le-ltb, length-take, take-append-drop}
 use Rattle.std.proofs.Math.Seq.{take-length}
 use Rattle.wire.specs.Varint.{enc, encode, Sum, Adds, Stops, sum}
-use Rattle.wire.specs.VarintLaws.{Bytes, enc-sum, sum-ends, sum-nil, stops, Summed, ends, goes_on, summed}
+use Rattle.wire.specs.VarintLaws.{Bytes, sum-ends, sum-nil, stops, Summed, ends, goes_on, summed}
 
 -- Rule V1: byte i adds its whole value times 128^i
 abbrev pub total : ℕ → List ℕ → ℕ
@@ -46,7 +46,7 @@ behind k b c cs v w = record { some = omega arith; few = omega (arith, w.few); o
     go (inr h) = inr (rw (last-behind b (c ∷ cs) (omega arith)) at h)
 
 -- whatever follows
-spelled : (k : ℕ) (bs rest : List ℕ) (v : ℕ) → Spells k bs v → sum k (bs ++ rest) ≡ Adds v (length bs)
+pub spelled : (k : ℕ) (bs rest : List ℕ) (v : ℕ) → Spells k bs v → sum k (bs ++ rest) ≡ Adds v (length bs)
 spelled zero [] rest v w = absurd (omega (arith, w.some))
 spelled zero (b ∷ []) rest v w = let e : b ≡ v = omega (arith, w.adds) in rw e
 spelled zero (b ∷ c ∷ cs) rest v w = absurd (omega (arith, w.few))
@@ -62,7 +62,7 @@ spelled (suc k) (b ∷ c ∷ cs) rest v w =
     rw (le-ltb b 128 (w.on 0 (omega arith)), ih, e)
 
 -- one byte that ends it
-ended : (k b : ℕ) → (k ≡ 0) ⊎ (b < 128) → Spells k (b ∷ []) b
+pub ended : (k b : ℕ) → (k ≡ 0) ⊎ (b < 128) → Spells k (b ∷ []) b
 ended k b h = record { some = omega arith; few = omega arith; on = λ i g. absurd (omega arith); end = go h; adds = omega arith }
   where
     go : (k ≡ 0) ⊎ (b < 128) → (1 ≡ suc k) ⊎ (b < 128)
@@ -70,7 +70,7 @@ ended k b h = record { some = omega arith; few = omega arith; on = λ i g. absur
     go (inr g) = inr g
 
 -- a byte from 0x80 on, in front of others
-further : (k b : ℕ) (bs : List ℕ) (w v : ℕ) → 128 ≤ b → Spells k bs w → v ≡ b + 128 * w → Spells (suc k) (b ∷ bs) v
+pub further : (k b : ℕ) (bs : List ℕ) (w v : ℕ) → 128 ≤ b → Spells k bs w → v ≡ b + 128 * w → Spells (suc k) (b ∷ bs) v
 further k b bs w v h s e =
     record { some = omega arith; few = omega (arith, s.few); on = above; end = over s.end; adds = omega (arith, s.adds, total-next 0 bs) }
   where
@@ -82,7 +82,7 @@ further k b bs w v h s e =
     over (inl q) = inl (omega arith)
     over (inr g) = inr (rw (last-behind b bs s.some) g)
 
-spells : (k v : ℕ) → Spells k (enc k v) v
+pub spells : (k v : ℕ) → Spells k (enc k v) v
 spells zero v = ended 0 v (inl refl)
 spells (suc k) v = go (spells k (v / 128 - 1)) (ltb v 128) refl
   where
@@ -91,25 +91,6 @@ spells (suc k) v = go (spells k (v / 128 - 1)) (ltb v 128) refl
     go ih false e = rw e (further k (128 + v % 128) (enc k (v / 128 - 1)) (v / 128 - 1) v (omega arith) ih (omega (arith, ltb-false v 128 e)))
 
 -- READING: THE SUM IS v AFTER n BYTES exactly if the first n bytes spell v
-
-pub sum-spells : (k : ℕ) (bs : List ℕ) (v n : ℕ) → sum k bs ≡ Adds v n → (n ≤ length bs) × Spells k (take n bs) v
-sum-spells zero [] v n e = stops e
-sum-spells zero (b ∷ bs) v n e =
-    let x : n ≡ 1 = cc in
-    let y : v ≡ b = cc in
-    rw (x, y) (omega arith, ended 0 b (inl refl))
-sum-spells (suc k) [] v n e = stops e
-sum-spells (suc k) (b ∷ bs) v n e = go (sum-spells k bs) (summed k b bs v n e)
-  where
-    go : ((w m : ℕ) → sum k bs ≡ Adds w m → (m ≤ length bs) × Spells k (take m bs) w) → Summed k b bs v n
-        → (n ≤ suc (length bs)) × Spells (suc k) (take n (b ∷ bs)) v
-    go ih (ends h x y) = rw (x, y) (omega arith, ended (suc k) b (inr h))
-    go ih (goes_on h w m q x y) = let r = ih w m q in rw y (omega (arith, r.0), further k b (take m bs) w v h r.1 x)
-
-pub spells-sum : (k : ℕ) (bs : List ℕ) (v n : ℕ) → n ≤ length bs → Spells k (take n bs) v → sum k bs ≡ Adds v n
-spells-sum k bs v n h w =
-    let l : length (take n bs) ≡ n = simp length-take (omega arith) in
-    ap (sum k) (sym (take-append-drop n bs)) ∙ spelled k (take n bs) (drop n bs) v w ∙ ap (Adds v) l
 
 -- IT STOPS exactly if the bytes run out before one below 0x80, and before the last that may follow
 
@@ -137,12 +118,6 @@ out-stops k [] o = sum-nil k
 out-stops zero (b ∷ bs) o = absurd (omega (arith, o.few))
 out-stops (suc k) (b ∷ bs) o =
     rw (le-ltb b 128 (o.on 0 (omega arith)), out-stops k bs (record { few = omega (arith, o.few); on = λ i h. o.on (suc i) (omega arith) }))
-
--- EVERY NUMBER BELOW 2^64 HAS ONE ENCODING (rule V5): the bytes that are a varint of v are those that v is written as
-pub one-encoding : (bs : List ℕ) (v : ℕ) → Bytes bs → IsVarint bs v → bs ≡ encode v
-unfolding encode
-one-encoding bs v h w =
-    sym (enc-sum 8 bs v (length bs) h (rw append-nil at (spelled 8 bs [] v w.spells)) ∙ take-length bs)
 
 pub encoded : (v : ℕ) → v < 2 ^ 64 → IsVarint (encode v) v
 unfolding encode

@@ -1,5 +1,7 @@
 // The types that every crate shares, and the numbers that have a name. What the bytes mean stands in specs/.
 // WireType, Value and Refusal are from src/encoding/mod.rs, opaque.rs and error.rs of bilrost.
+#![tactic(auto)]
+
 ghost use Rattle.std.specs.Prelude.{◌≡◌};
 ghost use Rattle.wire.specs.Numbers.{number_of};
 ghost use Rattle.wire.specs.Table.{good_head};
@@ -16,7 +18,7 @@ pub const NO_KEY: u64 = 0xffff_ffff_ffff_ffff;
 // The last tag that a field can have.
 pub const LAST_TAG: u64 = 0xffff_ffff;
 
-#[derive(Drop)]
+#[derive(Clone, Copy)]
 pub enum WireType {
     Varint,
     LengthDelimited,
@@ -25,7 +27,7 @@ pub enum WireType {
 }
 
 // A value. A payload is its place in the slice and its length.
-#[derive(Drop)]
+#[derive(Clone, Copy)]
 pub enum Value {
     Varint(u64),
     LengthDelimited(usize, usize),
@@ -33,13 +35,13 @@ pub enum Value {
     SixtyFourBit(u64),
 }
 
-#[derive(Drop)]
+#[derive(Clone, Copy)]
 pub struct Field {
     pub tag: u32,
     pub value: Value,
 }
 
-#[derive(Drop)]
+#[derive(Clone, Copy)]
 pub struct Key {
     pub tag: u32,
     pub wire: WireType,
@@ -47,7 +49,7 @@ pub struct Key {
 
 // A field as it stands in a table: its tag, its wire type's number (its kind), the number or the payload's start, the value's bytes (0 for a varint),
 // and the place of its key or NO_KEY.
-#[derive(Drop)]
+#[derive(Clone, Copy)]
 pub struct Record {
     pub tag: u64,
     pub kind: u64,
@@ -57,7 +59,7 @@ pub struct Record {
 }
 
 // A record that is put in by hand: it has no key.
-#[derive(Drop)]
+#[derive(Clone, Copy)]
 pub struct NewRecord {
     pub tag: u64,
     pub kind: u64,
@@ -66,13 +68,13 @@ pub struct NewRecord {
 }
 
 // Where a read that failed began, and how many bytes of a varint it looked at: 0 where it was no varint's. Both are 0 where no read failed.
-#[derive(Drop)]
+#[derive(Clone, Copy)]
 pub struct Fault {
     pub place: usize,
     pub bytes: usize,
 }
 
-#[derive(Drop)]
+#[derive(Clone, Copy)]
 pub enum Refusal {
     Truncated,
     InvalidVarint,
@@ -131,39 +133,39 @@ pub fn good_head(len: usize, tag: u64, key: u64) -> bool
 }
 
 // What a core finds at a place of a slice: something and the place after it, or why there is none.
-#[derive(Drop)]
+#[derive(Clone, Copy)]
 pub enum VarintFound {
     Got(u64, usize),
     Refused(Refusal),
 }
 
-#[derive(Drop)]
+#[derive(Clone, Copy)]
 pub enum KeyFound {
     Got(Key, usize),
     Refused(Refusal),
 }
 
-#[derive(Drop)]
+#[derive(Clone, Copy)]
 pub enum ValueFound {
     Got(Value, usize),
     Refused(Refusal),
 }
 
-#[derive(Drop)]
+#[derive(Clone, Copy)]
 pub enum FieldFound {
     Got(Field, usize),
     Refused(Refusal),
 }
 
 // The place that skipping reaches, or why it does not and where the read failed.
-#[derive(Drop)]
+#[derive(Clone, Copy)]
 pub enum Reached {
     To(usize),
     Refused(Refusal, Fault),
 }
 
 // One step of a message.
-#[derive(Drop)]
+#[derive(Clone, Copy)]
 pub enum Stepped {
     Field(Field, usize),
     End,
@@ -171,14 +173,14 @@ pub enum Stepped {
 }
 
 // What a message reader answers: the end and the number of fields, or a refusal, its place, a count, and where the read failed.
-#[derive(Drop)]
+#[derive(Clone, Copy)]
 pub enum Read {
     Accepted(usize, usize),
     Refused(Refusal, usize, usize, Fault),
 }
 
 // What a search from the front answers: the only field of a tag or that there is none, and the number of keys read; or why not.
-#[derive(Drop)]
+#[derive(Clone, Copy)]
 pub enum Early {
     Found(Field, usize),
     Absent(usize),
@@ -186,28 +188,28 @@ pub enum Early {
 }
 
 // What a writer answers: the start and the length of what it wrote, or a refusal and the two numbers that stand there instead.
-#[derive(Drop)]
+#[derive(Clone, Copy)]
 pub enum Written {
     At(usize, usize),
     Refused(Refusal, usize, usize),
 }
 
 // What insertion answers: the new count, or a refusal and the number that it carries.
-#[derive(Drop)]
+#[derive(Clone, Copy)]
 pub enum Inserted {
     Count(usize),
     Refused(Refusal, usize),
 }
 
 // What is said of one record behind another: how many bytes it is written as, or why not.
-#[derive(Drop)]
+#[derive(Clone, Copy)]
 pub enum Weight {
     Bytes(usize),
     Bad(Refusal),
 }
 
 // What is said of all records: how much of a budget of bytes they leave, or the first refusal and the number that it carries.
-#[derive(Drop)]
+#[derive(Clone, Copy)]
 pub enum Weighed {
     Left(usize),
     First(Refusal, usize),

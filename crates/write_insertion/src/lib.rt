@@ -1,5 +1,7 @@
 // A record put into a table behind all records of an equal or lower tag. How long a source may be is the caller's to say.
 // From opaque.rs (`OpaqueMessage::insert`) of bilrost; the tests and the table are ours.
+#![tactic(auto)]
+
 ghost use Rattle.std.specs.Prelude.{◌≡◌, ◌++◌, ◌+◌, ◌≤◌, length};
 ghost use Rattle.std.proofs.lemmas.List.Edits.{sets};
 ghost use Rattle.wire.specs.Limits.{record_words};

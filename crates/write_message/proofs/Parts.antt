@@ -8,9 +8,9 @@ use native.Mathlib.Omega.{arith}
 use native.Mathlib.Numerals.{add-one}
 use borrow.Author.Tests.{ltb-true, ltb-false}
 use lib.Dec.{ltb}
-use lib.ListN.{length, take, drop, set, drop_of_length-le, length-append}
+use lib.ListN.{length, take, drop, set, drop_of_length-le}
 use lib.Seq.{sets, sets-eq, set-set, set_comm, drop-drop, take_all, length-sets}
-use Rattle.wire.specs.Varint.{enc, encode}
+use Rattle.wire.specs.Varint.{encode}
 use Rattle.wire.specs.VarintLaws.{enc-ends, enc-further}
 use Rattle.wire.specs.Fixed.{fixed, length-fixed}
 use Rattle.place.specs.Place.{Placed, put_at, put_part, put-roomy, part-inside, length_part, put_front, put-before}

@@ -2,13 +2,16 @@
 use Rattle.std.specs.Prelude.{ℕ, zero, suc, ◌+◌, ◌-◌, ◌*◌, ◌^◌, ◌≤◌, ◌<◌, ◌≡◌, refl, true, List, [], ◌∷◌, ◌++◌, length, drop}
 use Rattle.std.proofs.Common.{ap, ◌∙◌, sym, arith, lt-ltb, le-leb, length-append, length-drop}
 use Rattle.wire.specs.Limits.{record_words}
-use Rattle.wire.specs.Marks.{Mark, marks_from, marks, marks-turn, marks-end, marks-fields, marks-count}
+use Rattle.wire.specs.Marks.{Mark, marks_from, marks, marks-turn, marks-end}
+use Rattle.wire.proofs.Marks.{marks-fields, marks-count}
 use Rattle.wire.specs.VarintLaws.{Bytes}
 use Rattle.wire.specs.Written.{written}
 use Rattle.wire.specs.Places.{items}
 use Rattle.wire.specs.Reading.{capped_at, varint_at, value_at, field_at, Fields, reads_from, read_message}
-use Rattle.wire.specs.ReadingLaws.{number-got, payload-got, within-got, value-took, field_found_lem, field-moves}
-use Rattle.wire.specs.Theorem.{Stands, none, some, stands}
+use Rattle.wire.specs.ReadingLaws.{number-got, payload-got, within-got}
+use Rattle.wire.proofs.ReadingLaws.{value-took, field_found_lem, field-moves}
+use Rattle.wire.specs.Theorem.{Stands, none, some}
+use Rattle.wire.proofs.Theorem.{stands}
 use Rattle.wire.specs.Table.{kind_word, value_word, length_word, record_of, words, records, room, filled, record_at, fields_from, good_value, good}
 use Rattle.wire.specs.Table.{key-inside, head-key, length-records, record-behind, record-first, fields-records}
 use Rattle.write_record.specs.Records.{tag_before, judge, Fine, AllFine, tested, checked, message}

@@ -1,5 +1,7 @@
 // Records tested and measured, then put at a buffer's front or at its end. How long a source and a message may be is the caller's to say.
 // From src/encoding/mod.rs (TagWriter, TagRevWriter, RuntimeTagMeasurer) and opaque.rs (encode_field, prepend_field, value_encoded_len) of bilrost.
+#![tactic(auto)]
+
 ghost use Rattle.std.specs.Prelude.{◌≡◌, ◌⊎◌, ◌+◌, ◌-◌, ◌*◌, ◌/◌, ◌≤◌, ◌<◌, ◌^◌, length, take, drop};
 ghost use Rattle.std.proofs.lemmas.List.Edits.{sets};
 ghost use Rattle.wire.specs.Fixed.{fixed};

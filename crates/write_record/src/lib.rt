@@ -1,5 +1,7 @@
 // One record: taken from a table; over a source, whether it is good, and how many bytes it is written as.
 // From src/encoding/mod.rs (RuntimeTagMeasurer) and opaque.rs (value_encoded_len) of bilrost; the tests are ours.
+#![tactic(auto)]
+
 ghost use Rattle.std.specs.Prelude.{◌≡◌, ◌<◌, ◌≤◌, length};
 ghost use Rattle.wire.specs.Varint.{encode};
 ghost use Rattle.wire.specs.Table.{good_head, good};

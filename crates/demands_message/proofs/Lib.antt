@@ -1,0 +1,4 @@
+pub mod Cases
+pub mod Needed
+pub mod Reading
+pub mod Writing

@@ -1,0 +1,2 @@
+pub mod SoundingVerdict
+pub mod VerdictsC

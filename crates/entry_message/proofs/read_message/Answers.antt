@@ -1,0 +1,13 @@
+-- The gate, then the core.
+use mathlib.Core.Path.{◌∙◌, sym}
+use Rattle.entry_answer.specs.Gate.{through-shut, through-open}
+use Rattle.entry_message.specs.Messages.{read_entry}
+use Rattle.entry_message.proofs.read_message.Goals as goal
+
+pub returns-in-Shut : goal.returns-in-Shut
+unfolding read_entry
+returns-in-Shut c = sym (through-shut _ _ (sym c.gate.ensures ∙ c.in-Shut.is))
+
+pub returns : goal.returns
+unfolding read_entry
+returns c = c.read_into.ensures ∙ sym (through-open _ _ (sym c.gate.ensures ∙ c.in_default.is))

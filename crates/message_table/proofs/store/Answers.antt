@@ -1,0 +1,20 @@
+-- Five stores in a row.
+use native.Mathlib.Omega.{arith}
+use native.Mathlib.Numerals.{towards_suc}
+use lib.ListN.{length-set}
+use Rattle.message_table.proofs.store.Goals as goal
+
+pub bounds-table-i-2 : goal.bounds-table-i-2
+bounds-table-i-2 c = simp length-set (omega (arith, c.requires))
+
+pub bounds-table-i-3 : goal.bounds-table-i-3
+bounds-table-i-3 c = simp length-set (omega (arith, c.requires))
+
+pub bounds-table-i-4 : goal.bounds-table-i-4
+bounds-table-i-4 c = simp length-set (omega (arith, c.requires))
+
+pub bounds-table-i-5 : goal.bounds-table-i-5
+bounds-table-i-5 c = simp length-set (omega (arith, c.requires))
+
+pub returns : goal.returns
+returns c = simp towards_suc

@@ -1,0 +1,4 @@
+pub mod Cap
+pub mod Pairs
+pub mod Prefix
+pub mod Words

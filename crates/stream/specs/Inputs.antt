@@ -1,0 +1,29 @@
+-- What the arguments bring, before and behind a read of one of them.
+use Rattle.std.specs.Prelude.{ℕ, ◌-◌}
+use Rattle.stream.specs.declared.Input.{Input}
+use Rattle.stream.specs.declared.Input.TheVariants.{Named, Standard}
+use Rattle.stream.specs.declared.Input.TheVariants as input
+use Rattle.stream.specs.declared.Source.{Source}
+use Rattle.stream.specs.declared.Got.{Got}
+use Rattle.stream.specs.declared.Got.TheVariants.{Bytes, FileEnd, End, Failed}
+
+-- whether an argument brings a file, the standard input or nothing, and not which file
+pub data Kind : Type 0 where
+  brings_nothing : Kind
+  brings_a_file : Kind
+  brings_the_standard_input : Kind
+
+abbrev pub kind_of : Input → Kind
+kind_of input.Nothing = brings_nothing
+kind_of (Named f) = brings_a_file
+kind_of Standard = brings_the_standard_input
+
+-- the argument at which a read stood that came to this: behind a file's end the next one is said
+abbrev pub place_from : Got → ℕ → ℕ
+place_from Bytes i = i
+place_from FileEnd i = i - 1
+place_from End i = i
+place_from Failed i = i
+
+abbrev pub place_read : Source → ℕ
+place_read s = place_from s.got s.file

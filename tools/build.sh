@@ -1,0 +1,61 @@
+#!/usr/bin/env bash
+# Proves and builds by the toolchain's commands, and copies what they leave to where all else looks for it. What is there, and has not changed since, stays.
+#
+#   tools/build.sh WHAT..               WHAT is library (target/staticlib/libcapgauze_c.a), programs, or the name of one (target/bin/NAME)
+#   tools/build.sh --is-built WHAT..    builds nothing; status 0 if all of it is there and unchanged
+#
+# The toolchain's words go to the standard output, those of a crate up to a line 'rt: NAME proved (N s)' or 'rt: NAME failed'. Status 0 if all is built.
+set -u
+root=$(cd "$(dirname "${BASH_SOURCE[0]}")/.." && pwd)
+cd "$root" || exit 1
+rt=$(command -v rt) || { echo 'build.sh: the Rattle toolchain (rt) is not there' >&2; exit 2; }
+kit=$(dirname "$(dirname "$(readlink -f "$rt")")")/KIT-ID
+
+# the crates that one is made of, a lower one before a higher one, and itself at last
+crates_of() { # CRATE
+    awk -v want="$1" '
+        { sub(/#.*/, ""); i = index($0, ":"); if (i) { split($0, name, /[ :]/); deps[name[1]] = substr($0, i + 1) } }
+        function visit(n, a, k, m) { if (seen[n]++ || !(n in deps)) return; m = split(deps[n], a, " "); for (k = 1; k <= m; k++) visit(a[k]); print n }
+        END { visit(want) }' crates.txt
+}
+
+is_built() { # CRATE FILE STAMP
+    [ -f "$2" ] && [ -f "$3" ] && cmp -s "$3" "$kit" || return 1
+    [ -z "$(find crates.txt $(crates_of "$1" | sed 's|.*|crates/&/src crates/&/specs crates/&/proofs|') -newer "$3" -print -quit 2>/dev/null)" ]
+}
+
+# A program is proved, compiled and run by one command: on no input here, which each of them answers with status 0. What is linked is for every x86-64.
+prove_crate() { # CRATE
+    local start=$SECONDS how=lib said status end=failed
+    ! grep -q "^$1 staticlib:" crates.txt || how='lib --cpu=x86-64'
+    [ ! -f "crates/$1/src/main.rt" ] || how='run --cpu=x86-64'
+    # shellcheck disable=SC2086
+    said=$(cd "crates/$1" && exec rt $how </dev/null 2>&1)
+    status=$?
+    [ $status -ne 0 ] || end="proved ($((SECONDS - start)) s)"
+    { flock 9 && printf '%s\n' "$said" "rt: $1 $end"; } 9>target/.said # one at a time
+    [ $status -eq 0 ] || exit 255 # and no other is begun
+}
+export -f prove_crate
+
+# Two are proved at a time. One that needs another, which is at work, waits for it.
+build() { # CRATE FILE STAMP MADE
+    mkdir -p "${2%/*}"
+    cp "$kit" "$3.new"
+    crates_of "$1" | xargs -r -n 1 -P 2 bash -c 'prove_crate "$0"' && cp --remove-destination "$4" "$2" && mv "$3.new" "$3"
+}
+
+only_look=
+[ "${1:-}" != --is-built ] || { only_look=yes; shift; }
+for what in ${*//programs/dump soundings}; do
+    if [ "$what" = library ]; then
+        crate=$(sed -n 's/^\([a-z0-9_]*\) staticlib:.*/\1/p' crates.txt)
+        file=target/staticlib/libcapgauze_c.a made=crates/$crate/out/lib$crate.a
+    else
+        crate=$what file=target/bin/$what made=crates/$what/out/$what
+    fi
+    stamp=${file%/*}/.${file##*/}.built
+    is_built "$crate" "$file" "$stamp" && continue
+    [ -z "$only_look" ] || exit 1
+    build "$crate" "$file" "$stamp" "$made" || exit 1
+done
