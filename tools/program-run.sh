@@ -19,11 +19,42 @@ answer() { # ARGUMENT..
     done
 }
 
+is_utf8() { # WORD
+    local LC_ALL=C
+    [[ $1 != *[!$'\001'-$'\177']* ]] || printf %s "$1" | iconv -f UTF-8 -t UTF-8 >/dev/null 2>&1
+}
+
+# A program opens a file by a name that is UTF-8. A file with any other name is opened here, and the program is given its descriptor.
+name_files() { # ARGUMENT.., into the array `named`
+    local word fd said value='' only_files=''
+    named=()
+    for word in "$@"; do
+        if [ -n "$value" ]; then
+            value=
+        elif [ -n "$only_files" ] || [[ $word != -* ]]; then
+            if ! is_utf8 "$word"; then
+                if ! { exec {fd}<"$word"; } 2>/dev/null; then
+                    said=$({ true <"$word"; } 2>&1)
+                    fail "$word: ${said##*: }"
+                fi
+                word=/dev/fd/$fd
+            fi
+        else
+            case $word in
+            --) only_files=yes ;;
+            --edition | --least) value=yes ;;
+            esac
+        fi
+        named+=("$word")
+    done
+}
+
 # A program ends with its own status. The language's runtime ignores SIGPIPE for it, so where nobody reads its output any more it ends with that
 # signal's status, 141, by itself, as other filters do; that is 1 where its caller ignores the signal.
 run() { # PROGRAM ARGUMENT..
-    local ended
-    "$@"
+    local ended named
+    name_files "${@:2}"
+    "$1" "${named[@]}"
     ended=$?
     [ "$ended" -ne 141 ] || [ -z "$(trap -p PIPE)" ] || ended=1
     exit "$ended"

@@ -65,6 +65,9 @@ try_files() {
     (cd "$room" && "$root/$name" -- -dashed >out 2>err; echo $? >status)
     status=$(cat "$room/status") out=$(cat "$room/out"; echo .) err=$(cat "$room/err")
     try 'a name with a dash, behind --' 0 "$begin$one$lf" ''
+    cp "$room/a" "$room/"$'name\xe9'
+    run "$room/"$'name\xe9' "$room/b" "$room/c"
+    try 'a name that is not UTF-8' 0 "$all" ''
 }
 
 try_failures() {
@@ -73,6 +76,10 @@ try_failures() {
     refused_run 'a file that is missing, behind one that is not' "$name: $room/missing: No such file or directory"
     run "$room/a" ''
     refused_run 'an empty name' "$name: : No such file or directory"
+    run "$room/a" "$room/"$'none\xe9'
+    refused_run 'a missing file whose name is not UTF-8' "$name: $room/"$'none\xe9: No such file or directory'
+    run - - <"$room/a"
+    try 'the standard input twice' 1 "$begin$one$lf" "$name: standard input: Bad file descriptor"
     run "$(head -c 5000 /dev/zero | tr '\0' a)"
     refused_run 'a name that is too long' "$name: an argument: File name too long"
     chmod 0 "$room/shut"
@@ -103,6 +110,8 @@ try_failures() {
     err=$("./$name" "$room/a" 2>&1 >&-)
     is 'no standard output: status' 1 $?
     is 'no standard output: error' "$name: standard output: Bad file descriptor" "$err"
+    err=$("./$name" "$room/none" 2>&1 >/dev/full)
+    is 'a full disk, and nothing to write but the first row: status' "$skip" $?
 }
 
 # Many frames, so that the pipe's buffer is full before the reader goes.

@@ -351,19 +351,36 @@ fn replay(rt: &HostRuntime, list: &mut File) -> io::Result<State> {
     Ok(st)
 }
 
-fn replay_list(rt: &HostRuntime) -> io::Result<()> {
+// Says what failed, in the system's words without their number.
+fn say_failed(rt: &HostRuntime, what: &str, e: io::Error) {
+    if let Ok(text) = format!(in rt.alloc(); "{e}") {
+        let _ = match text.as_str().split_once(" (os error ") {
+            Some((words, _)) => eprintln!(rt; "{what}: {words}"),
+            None => eprintln!(rt; "{what}: {text}"),
+        };
+    }
+}
+
+fn replay_list(rt: &HostRuntime) -> io::Result<State> {
     let mut list = File::open(rt, LIST)?;
-    let st = replay(rt, &mut list)?;
+    replay(rt, &mut list)
+}
+
+fn print_counts(rt: &HostRuntime, st: State) -> io::Result<()> {
     let cases = st.cases;
     let differ = st.differ;
     println!(rt; "{cases} cases, {differ} differ")
 }
 
 fn main(rt: HostRuntime) -> ExitCode {
-    match replay_list(&rt) {
+    let ended = match replay_list(&rt) {
+        Ok(st) => print_counts(&rt, st).map_err(|e| ("standard output", e)),
+        Err(e) => Err((LIST, e)),
+    };
+    match ended {
         Ok(()) => ExitCode::SUCCESS,
-        Err(e) => {
-            let _ = eprintln!(rt; "{LIST}: {e}");
+        Err((what, e)) => {
+            say_failed(&rt, what, e);
             ExitCode::FAILURE
         }
     }

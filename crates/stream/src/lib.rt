@@ -12,6 +12,7 @@ use std::alloc::Global;
 use std::env::{Env, FillError};
 use std::fs::{File, OpenOptions};
 use std::io::{ErrorKind, Read, Write};
+use std::os::fd::AsFd;
 use std::{array, fs, io, str};
 use stream_orders::{Argument, Fault, Least, Orders, Wants};
 
@@ -32,12 +33,14 @@ pub struct Source {
     pub got: Got,
 }
 
-// What an argument brings: nothing, an open file, or the standard input. A file is closed where it is let go.
+// What an argument brings: nothing, an open file, the standard input, or the standard input once more, which is closed by then. A file is closed where it is
+// dropped.
 #[derive(Drop)]
 pub enum Input {
     Nothing,
     Named(File),
     Standard,
+    Closed,
 }
 
 // How much of a text was written, and where that is not all, why.
@@ -66,18 +69,22 @@ const FAILED: u8 = 1;
 
 const NOBODY_READS: u8 = 141;
 
-// Where a status is told: the file behind descriptor 3.
+// The file of descriptor 3, to which a status is written.
 const STATUS_FILE: &str = "/dev/fd/3";
 
-// The output, once more.
+// The file of the standard output.
 const OUTPUT_FILE: &str = "/dev/fd/1";
 
-// The longest name of a file, and with it the longest line of what failed.
+// The longest name of a file; the longest name of what failed, after the program's; and the longest line that says why.
 const NAME: usize = 4_096;
+
+const LABEL: usize = 4_224;
 
 const LINE: usize = 4_480;
 
-// The system's reason for a name that is too long.
+// The system's reasons for a descriptor that is closed and for a name that is too long.
+const EBADF: i32 = 9;
+
 const ENAMETOOLONG: i32 = 36;
 
 // ---- arguments
@@ -124,8 +131,9 @@ fn put_text(line: &mut [u8], at: usize, text: &[u8]) -> usize {
 }
 
 fn put_name(rt: &HostRuntime, line: &mut [u8], at: usize, i: usize) -> usize {
-    let mut word = [0u8; NAME];
-    match rt.arg(i, &mut word) {
+    let mut word = [0u8; LABEL];
+    let room = LABEL.saturating_sub(at);
+    match rt.arg(i, &mut word[..room]) {
         Ok(n) => place::put_part(line, at, &word, 0, n),
         Err(_) => put_text(line, at, b"an argument"),
     }
@@ -139,7 +147,7 @@ fn put_failing(rt: &HostRuntime, line: &mut [u8], at: usize, what: Failing) -> u
     }
 }
 
-// An error's words, without the system's number behind them.
+// An error's words, without the system's number at their end.
 fn put_words(line: &mut [u8], at: usize, text: &str) -> usize {
     match text.split_once(" (os error ") {
         Some((words, _)) => put_text(line, at, words.as_bytes()),
@@ -172,10 +180,10 @@ fn say(rt: &HostRuntime, text: &[u8]) {
     write_all(&mut rt.stderr(), text);
 }
 
-// Tells the exit status to whoever holds the descriptor for it, where the arguments asked for that.
+// Writes the exit status to descriptor 3, where the arguments asked for that. What others wrote to its file is kept.
 fn tell(rt: &HostRuntime, status: bool, digit: &[u8]) {
     if status {
-        if let Ok(mut held) = OpenOptions::new().write(true).open(rt, STATUS_FILE) {
+        if let Ok(mut held) = OpenOptions::new().append(true).open(rt, STATUS_FILE) {
             write_all(&mut held, digit);
         }
     }
@@ -213,6 +221,7 @@ fn read_input(rt: &HostRuntime, input: &mut Input, block: &mut [u8]) -> io::Resu
         Input::Nothing => Ok(0),
         Input::Named(file) => read_block(file, block),
         Input::Standard => read_block(&mut rt.stdin(), block),
+        Input::Closed => Err(io::Error::from_raw_os_error(EBADF)),
     }
 }
 
@@ -236,7 +245,7 @@ fn next_file(files: &[Input], from: usize) -> usize {
 // What a failure of an argument's input is called.
 fn failing_at(input: &Input, i: usize) -> Failing {
     match input {
-        Input::Standard => Failing::Input,
+        Input::Standard | Input::Closed => Failing::Input,
         _ => Failing::Named(i),
     }
 }
@@ -252,8 +261,8 @@ pub fn from_the_first() -> Source
     }
 }
 
-// The next block: the bytes that one read of the present file brings, or that it is at its end. What the other arguments bring stays as it is, and that of the
-// file that was read is of the same kind, but nothing behind the file's end.
+// The next block: the bytes that one read of the present file brings, or that it is at its end. What the other arguments bring stays as it is. The argument
+// whose file was read brings the same kind of input as before, and nothing once the file is at its end.
 pub fn next_block(
     rt: &HostRuntime,
     program: &[u8],
@@ -262,6 +271,7 @@ pub fn next_block(
     s: Source,
 ) -> Source
     ensures inside { result.n ≤ length block.new }
+    ensures some { result.got ≡ Got.Bytes → 1 ≤ result.n }
     ensures same_length { length files.new ≡ length files.old }
     ensures before { take (place_read result) files.new ≡ take (place_read result) files.old }
     ensures after { drop (place_read result + 1) files.new ≡ drop (place_read result + 1) files.old }
@@ -361,7 +371,7 @@ pub fn write_out(rt: &HostRuntime, program: &[u8], text: &[u8]) -> Written
     written
 }
 
-// The status that a program ends with behind a write: 0 where all was written, that of SIGPIPE where nobody reads the output any more, else 1.
+// The status that a program ends with after a write: 0 where all was written, that of SIGPIPE where nobody reads the output any more, else 1.
 // The runtime ignores that signal, so a program has to end by itself.
 pub fn status_of(w: Written) -> u8
     ensures whole { w.error ≡ None → result ≡ 0 }
@@ -489,30 +499,40 @@ fn open_named(rt: &HostRuntime, i: usize) -> io::Result<File> {
     }
 }
 
-// What an argument brings; its file is opened.
-fn input_for(rt: &HostRuntime, i: usize, a: Argument) -> io::Result<Input> {
+// What an argument brings; its file is opened. The standard input is read once: where an argument before this one named it, it is closed.
+fn input_for(rt: &HostRuntime, i: usize, a: Argument, named_before: bool) -> io::Result<Input> {
     match a {
         Argument::File => Ok(Input::Named(open_named(rt, i)?)),
+        Argument::Input if named_before => Ok(Input::Closed),
         Argument::Input => Ok(Input::Standard),
         _ => Ok(Input::Nothing),
+    }
+}
+
+fn is_input(a: Argument) -> bool {
+    match a {
+        Argument::Input => true,
+        _ => false,
     }
 }
 
 // Opens every file that the arguments name; false at the first that cannot be opened.
 fn open_files(rt: &HostRuntime, program: &[u8], files: &mut [Input], count: usize) -> bool {
     let mut o = stream_orders::no_orders();
+    let mut standard = false;
     for i in 1..count {
         if files.len() <= i {
             return false;
         }
         let a = argument_at(rt, i, o);
-        match input_for(rt, i, a) {
+        match input_for(rt, i, a, standard) {
             Ok(input) => files[i] = input,
             Err(e) => {
                 say_failed(rt, program, Failing::Named(i), e);
                 return false;
             }
         }
+        standard = standard || is_input(a);
         o = stream_orders::ordered(o, a);
     }
     if !o.named {
@@ -592,16 +612,41 @@ pub fn open_all(rt: &HostRuntime, program: &[u8], files: &mut [Input], editions:
     open_orders(rt, program, files, count, o)
 }
 
-// A write of nothing fails where there is no output. std closes no standard stream, and some file systems tell a full disk only when a file is closed or
-// synced: so an output that is a file, and may be opened, is synced.
+// The output has to be open, and what was written to a file has to be on its disk: some file systems report a full disk only then, or when the file is closed.
+// std closes no standard stream, so a file that may be opened again is synced.
 fn settle_output(rt: &HostRuntime) -> io::Result<()> {
-    write_some(&mut rt.stdout(), b"")?;
+    let output = rt.stdout();
+    let _open = output.as_fd().try_clone_to_owned()?;
     if is_file_at(rt, OUTPUT_FILE) {
-        if let Ok(out) = File::open(rt, OUTPUT_FILE) {
-            return out.sync_data();
+        if let Ok(file) = open_output(rt) {
+            return sync(&file);
         }
     }
     Ok(())
+}
+
+// The file of the standard output, opened again.
+fn open_output(rt: &HostRuntime) -> io::Result<File> {
+    match File::open(rt, OUTPUT_FILE) {
+        Ok(file) => Ok(file),
+        Err(_) => OpenOptions::new().append(true).open(rt, OUTPUT_FILE),
+    }
+}
+
+// Syncs a file, where its file system can do that.
+fn sync(file: &File) -> io::Result<()> {
+    match file.sync_data() {
+        Err(e) if is_refused(e) => Ok(()),
+        done => done,
+    }
+}
+
+// Whether an error says that a call is not for such a file.
+fn is_refused(e: io::Error) -> bool {
+    match e.kind() {
+        ErrorKind::InvalidInput | ErrorKind::Unsupported => true,
+        _ => false,
+    }
 }
 
 fn is_file_at(rt: &HostRuntime, path: &str) -> bool {
