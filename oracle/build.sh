@@ -1,6 +1,6 @@
 #!/bin/sh
-# Builds the oracle's three programs into target/bin and holds them to edges.txt. Offline; needs cargo and Debian's
-# librust-bytes-dev.
+# Builds the oracle's three programs into target/bin and holds them to edges.txt. First it checks that list is the one that replay
+# runs. Offline; needs cargo and Debian's librust-bytes-dev.
 #   oracle          unrolled varint writers, self-copy in ReverseBuffer
 #   oracle-looped   neither: the looped twins
 #   oracle-checked  the `forbid-unsafe` twins, with overflow checks and debug assertions

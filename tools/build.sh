@@ -1,17 +1,17 @@
 #!/usr/bin/env bash
-# Proves and builds by the toolchain's commands, and copies what they leave to where all else looks for it. What is there, and has not changed since, stays.
+# Proves and builds with the toolchain's commands, and copies the results to where all else looks for them. What is up to date stays.
 #
 #   tools/build.sh WHAT..               WHAT is library (target/staticlib/libcapgauze_c.a), programs, or the name of one (target/bin/NAME)
 #   tools/build.sh --is-built WHAT..    builds nothing; status 0 if all of it is there and unchanged
 #
-# The toolchain's words go to the standard output, those of a crate up to a line 'rt: NAME proved (N s)' or 'rt: NAME failed'. Status 0 if all is built.
+# What the toolchain says goes to the standard output, crate by crate. A line 'rt: NAME proved (N s)' or 'rt: NAME failed' ends each. Status 0 if all is built.
 set -u
 root=$(cd "$(dirname "${BASH_SOURCE[0]}")/.." && pwd)
 cd "$root" || exit 1
 rt=$(command -v rt) || { echo 'build.sh: the Rattle toolchain (rt) is not there' >&2; exit 2; }
 kit=$(dirname "$(dirname "$(readlink -f "$rt")")")/KIT-ID
 
-# the crates that one is made of, a lower one before a higher one, and itself at last
+# the crates that one is made of, a lower one before a higher one, and that crate last
 crates_of() { # CRATE
     awk -v want="$1" '
         { sub(/#.*/, ""); i = index($0, ":"); if (i) { split($0, name, /[ :]/); deps[name[1]] = substr($0, i + 1) } }
@@ -24,7 +24,7 @@ is_built() { # CRATE FILE STAMP
     [ -z "$(find crates.txt $(crates_of "$1" | sed 's|.*|crates/&/src crates/&/specs crates/&/proofs|') -newer "$3" -print -quit 2>/dev/null)" ]
 }
 
-# A program is proved, compiled and run by one command: on no input here, which each of them answers with status 0. What is linked is for every x86-64.
+# One command proves, compiles and runs a program. Here it gets no input, and each program then ends with status 0. What is linked is for every x86-64.
 prove_crate() { # CRATE
     local start=$SECONDS how=lib said status end=failed
     ! grep -q "^$1 staticlib:" crates.txt || how='lib --cpu=x86-64'

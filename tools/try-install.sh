@@ -157,7 +157,7 @@ try_refusals() {
     is 'a folder that may not be written: error' "install: $room/shut may not be written" "$err"
 }
 
-# What is not proved is not installed; each crate's line is shown as it comes. Another `rt` stands in, which proves one crate and fails at all others.
+# What is not proved is not installed; each crate's line is shown as it comes. Here another `rt` is used, which proves one crate and fails at all others.
 try_failed_proof() {
     mkdir "$room/stand-in"
     echo stand-in >"$room/KIT-ID"
