@@ -2,10 +2,10 @@
 # Proves and builds with the toolchain's commands, and copies the results to where all else looks for them. What is up to date stays.
 #
 #   tools/build.sh WHAT..               WHAT is library (target/staticlib/libcapgauze_c.a), programs, or the name of one (target/bin/NAME)
-#   tools/build.sh --is-built WHAT..    builds nothing; status 0 if all of it is there and unchanged
+#   tools/build.sh --is-built WHAT..    builds nothing; status 0 if all of it is there and up to date
 #
 # What the toolchain says goes to the standard output, crate by crate. A line 'rt: NAME proved (N s)' or 'rt: NAME failed' ends each. Status 0 if all is built.
-set -u
+set -uo pipefail
 root=$(cd "$(dirname "${BASH_SOURCE[0]}")/.." && pwd)
 cd "$root" || exit 1
 rt=$(command -v rt) || { echo 'build.sh: the Rattle toolchain (rt) is not there' >&2; exit 2; }
@@ -19,9 +19,15 @@ crates_of() { # CRATE
         END { visit(want) }' crates.txt
 }
 
+# what a crate is built from: the toolchain, crates.txt, and the sources, definitions and proofs of all crates that it is made of
+sum_of() { # CRATE
+    if [ -f "$kit" ]; then cat "$kit"; else rt version; fi || return 1
+    { echo crates.txt; crates_of "$1" | sed 's|.*|crates/&|' | xargs -d '\n' sh -c 'find "$@" -type f -path "crates/*/[sp]*/*" ! -path "crates/*/out/*"' sh; } |
+        LC_ALL=C sort | xargs -d '\n' sha256sum | sha256sum
+}
+
 is_built() { # CRATE FILE STAMP
-    [ -f "$2" ] && [ -f "$3" ] && cmp -s "$3" "$kit" || return 1
-    [ -z "$(find crates.txt $(crates_of "$1" | sed 's|.*|crates/&/src crates/&/specs crates/&/proofs|') -newer "$3" -print -quit 2>/dev/null)" ]
+    [ -f "$2" ] && [ -f "$3" ] && sum_of "$1" | cmp -s "$3" -
 }
 
 # One command proves, compiles and runs a program. Here it gets no input, and each program then ends with status 0. What is linked is for every x86-64.
@@ -38,24 +44,33 @@ prove_crate() { # CRATE
 }
 export -f prove_crate
 
-# Two are proved at a time. One that needs another, which is at work, waits for it.
+# Two are proved at a time. One that needs another, which is being proved, waits for it. The result is copied whole or not at all.
 build() { # CRATE FILE STAMP MADE
-    mkdir -p "${2%/*}"
-    cp "$kit" "$3.new"
-    crates_of "$1" | xargs -r -n 1 -P 2 bash -c 'prove_crate "$0"' && cp --remove-destination "$4" "$2" && mv "$3.new" "$3"
+    local sum
+    rm -f "$3"
+    sum=$(sum_of "$1") &&
+        crates_of "$1" | xargs -r -n 1 -P 2 bash -c 'prove_crate "$0"' &&
+        cp "$4" "$2.new" && mv -f "$2.new" "$2" && printf '%s\n' "$sum" >"$3"
 }
 
 only_look=
 [ "${1:-}" != --is-built ] || { only_look=yes; shift; }
+[ $# -gt 0 ] || { echo 'build.sh: name what is to be built: library, programs, or a program' >&2; exit 2; }
 for what in ${*//programs/dump soundings}; do
     if [ "$what" = library ]; then
         crate=$(sed -n 's/^\([a-z0-9_]*\) staticlib:.*/\1/p' crates.txt)
         file=target/staticlib/libcapgauze_c.a made=crates/$crate/out/lib$crate.a
     else
         crate=$what file=target/bin/$what made=crates/$what/out/$what
+        [ -f "crates/$crate/src/main.rt" ] || { echo "build.sh: there is no program $what" >&2; exit 2; }
     fi
     stamp=${file%/*}/.${file##*/}.built
     is_built "$crate" "$file" "$stamp" && continue
     [ -z "$only_look" ] || exit 1
-    build "$crate" "$file" "$stamp" "$made" || exit 1
+    mkdir -p "${file%/*}" || exit 1
+    # One run builds it; another waits, and finds it built.
+    (
+        flock 8
+        is_built "$crate" "$file" "$stamp" || build "$crate" "$file" "$stamp" "$made" 8>&-
+    ) 8>"${file%/*}/.${file##*/}.lock" || exit 1
 done

@@ -50,11 +50,11 @@ name_files() { # ARGUMENT.., into the array `named`
 }
 
 # A program ends with its own status. The language's runtime ignores SIGPIPE for it, so where nobody reads its output any more it ends with that
-# signal's status, 141, by itself, as other filters do; that is 1 where its caller ignores the signal.
+# signal's status, 141, by itself, as other filters do; that is 1 where its caller ignores the signal. It does not see the caller's descriptor 3.
 run() { # PROGRAM ARGUMENT..
     local ended named
     name_files "${@:2}"
-    "$1" "${named[@]}"
+    { "$1" "${named[@]}" 2>&4 3>&- 4>&-; } 4>&2 2>/dev/null # if a signal ends it, the shell says nothing
     ended=$?
     [ "$ended" -ne 141 ] || [ -z "$(trap -p PIPE)" ] || ended=1
     exit "$ended"

@@ -100,6 +100,10 @@ try_failures() {
     try 'a directory as the standard input' 1 "$begin" "$name: standard input: Is a directory"
     run <&-
     try 'no standard input' 1 "$begin" "$name: standard input: Bad file descriptor"
+    printf kept >"$room/three"
+    "./$name" --status "$room/a" 3<>"$room/three" >"$room/out" 2>"$room/err"
+    is "a caller's descriptor 3: status" 0 $?
+    is "a caller's descriptor 3: its file" kept "$(cat "$room/three")"
     run --wrong "$room/missing"
     try 'an unknown option' 2 "" "$name: there is no option --wrong$lf$usage"
     run -x
@@ -123,6 +127,9 @@ try_closed_pipe() {
     { (trap '' PIPE; exec "./$name" "$room/many" 2>"$room/err"); echo $? >"$room/status"; } | head -n 1 >/dev/null
     is 'a closed pipe, SIGPIPE ignored: status' 1 "$(cat "$room/status")"
     is 'a closed pipe, SIGPIPE ignored: error' '' "$(cat "$room/err")"
+    (ulimit -f 8; exec "./$name" "$room/many" >"$room/out" 2>"$room/err")
+    is 'ended by a signal (SIGXFSZ): status' 153 $?
+    is 'ended by a signal (SIGXFSZ): error' '' "$(cat "$room/err")"
 }
 
 # The same bytes however they are cut: written one at a time, and from a file at once.

@@ -8,7 +8,6 @@ ghost use Rattle.std.specs.Io.{ReadsAtMost, WritesAtMost};
 ghost use Rattle.std.specs.Io.KnownBytes.{Keeps, Consumes, Appends, WriteAppends, IsAtEnd};
 ghost use Rattle.stream.specs.Inputs.{kind_of, place_read};
 
-use std::alloc::Global;
 use std::env::{Env, FillError};
 use std::fs::{File, OpenOptions};
 use std::io::{ErrorKind, Read, Write};
@@ -80,7 +79,10 @@ const NAME: usize = 4_096;
 
 const LABEL: usize = 4_224;
 
-const LINE: usize = 4_480;
+const LINE: usize = 4_608;
+
+// Room for the system's reason.
+const REASON: usize = 256;
 
 // The system's reasons for a descriptor that is closed and for a name that is too long.
 const EBADF: i32 = 9;
@@ -155,10 +157,22 @@ fn put_words(line: &mut [u8], at: usize, text: &str) -> usize {
     }
 }
 
-fn put_reason(line: &mut [u8], at: usize, alloc: Global, e: io::Error) -> usize {
-    match format!(in alloc; "{e}") {
-        Ok(text) => put_words(line, at, text.as_str()),
+// The system's reason. It is written without the heap, so that none is lost where memory is short.
+fn put_reason(line: &mut [u8], at: usize, e: io::Error) -> usize {
+    let mut reason = io::Cursor::new([0u8; REASON]);
+    let _ = write!(reason, "{e}");
+    let room = reason.into_inner();
+    match str::from_utf8(until_nul(&room)) {
+        Ok(text) => put_words(line, at, text),
         Err(_) => at,
+    }
+}
+
+// The bytes before the first that is 0.
+fn until_nul(bytes: &[u8]) -> &[u8] {
+    match bytes.iter().position(|b| *b == 0) {
+        Some(n) => &bytes[..n],
+        None => bytes,
     }
 }
 
@@ -169,7 +183,7 @@ fn say_failed(rt: &HostRuntime, program: &[u8], what: Failing, e: io::Error) {
     n = put_text(&mut line, n, b": ");
     n = put_failing(rt, &mut line, n, what);
     n = put_text(&mut line, n, b": ");
-    n = put_reason(&mut line, n, rt.alloc(), e);
+    n = put_reason(&mut line, n, e);
     n = put_text(&mut line, n, b"\n");
     if n <= LINE {
         say(rt, &line[..n]);
@@ -612,11 +626,18 @@ pub fn open_all(rt: &HostRuntime, program: &[u8], files: &mut [Input], editions:
     open_orders(rt, program, files, count, o)
 }
 
-// The output has to be open, and what was written to a file has to be on its disk: some file systems report a full disk only then, or when the file is closed.
-// std closes no standard stream, so a file that may be opened again is synced.
+// The output has to be open: a descriptor that is closed has no duplicate. The duplicate is closed after the sync, since closing it could take an error away.
 fn settle_output(rt: &HostRuntime) -> io::Result<()> {
     let output = rt.stdout();
-    let _open = output.as_fd().try_clone_to_owned()?;
+    match output.as_fd().try_clone_to_owned() {
+        Err(e) if e.raw_os_error() == Some(EBADF) => Err(e),
+        _duplicate => sync_output(rt),
+    }
+}
+
+// What was written to a file has to be on its disk: some file systems report a full disk only then, or when the file is closed. std closes no standard stream,
+// so a file that may be opened again is synced.
+fn sync_output(rt: &HostRuntime) -> io::Result<()> {
     if is_file_at(rt, OUTPUT_FILE) {
         if let Ok(file) = open_output(rt) {
             return sync(&file);
@@ -644,7 +665,7 @@ fn sync(file: &File) -> io::Result<()> {
 // Whether an error says that a call is not for such a file.
 fn is_refused(e: io::Error) -> bool {
     match e.kind() {
-        ErrorKind::InvalidInput | ErrorKind::Unsupported => true,
+        ErrorKind::InvalidInput | ErrorKind::Unsupported | ErrorKind::ReadOnlyFilesystem => true,
         _ => false,
     }
 }
