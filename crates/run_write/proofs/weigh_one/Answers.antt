@@ -10,10 +10,10 @@ use Rattle.run_write.specs.RunLaws.{weigh-run, weigh-not}
 use Rattle.run_write.proofs.weigh_one.Goals as goal
 
 pub returns-then-r-ne0 : goal.returns-then-r-ne0
-returns-then-r-ne0 c = sym (weigh-not _ _ _ (λ g k t. c.if-r-ne0.true t))
+returns-then-r-ne0 c = sym (weigh-not _ _ _ (λ g k t. c.if-r-ne0.true (omega (arith, t))))
 
 pub returns-then-r-kind : goal.returns-then-r-kind
-returns-then-r-kind c = sym (weigh-not _ _ _ (λ g k t. c.if-r-kind.true k))
+returns-then-r-kind c = sym (weigh-not _ _ _ (λ g k t. c.if-r-kind.true (omega (arith, k))))
 
 pub value_len-requires : goal.value_len-requires
 value_len-requires c e =

@@ -13,7 +13,7 @@ pub bounds-table-i : goal.bounds-table-i
 bounds-table-i c = omega (arith, c.loop-i.invariant.index, c.requires)
 
 pub returns-then-table-i : goal.returns-then-table-i
-returns-then-table-i c = find-here c.loop-i.invariant c.loop-i-test.true c.if-table-i.true
+returns-then-table-i c = find-here c.loop-i.invariant c.loop-i-test.true (omega (arith, c.if-table-i.true))
 
 pub loop-i-preserved : goal.loop-i-preserved
 loop-i-preserved c = find-more c.loop-i.invariant c.loop-i-test.true c.if-table-i.false
