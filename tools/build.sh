@@ -1,7 +1,7 @@
 #!/usr/bin/env bash
 # Proves and builds with the toolchain's commands, and copies the results to where all else looks for them. What is up to date stays.
 #
-#   tools/build.sh WHAT..               WHAT is library (target/staticlib/libcapgauze_c.a), programs, or the name of one (target/bin/NAME)
+#   tools/build.sh WHAT..               WHAT is library (target/staticlib/libcapgauze_c.a), programs, dump or soundings (target/bin/NAME)
 #   tools/build.sh --is-built WHAT..    builds nothing; status 0 if all of it is there and up to date
 #
 # What the toolchain says goes to the standard output, crate by crate. A line 'rt: NAME proved (N s)' or 'rt: NAME failed' ends each. Status 0 if all is built.
@@ -30,7 +30,7 @@ is_built() { # CRATE FILE STAMP
     [ -f "$2" ] && [ -f "$3" ] && sum_of "$1" | cmp -s "$3" -
 }
 
-# One command proves, compiles and runs a program. Here it gets no input, and each program then ends with status 0. What is linked is for every x86-64.
+# One command proves, compiles and runs a program. Here it gets no input, and each of the two then ends with status 0. What is linked is for every x86-64.
 prove_crate() { # CRATE
     local start=$SECONDS how=lib said status end=failed
     ! grep -q "^$1 staticlib:" crates.txt || how='lib --cpu=x86-64'
@@ -48,24 +48,23 @@ export -f prove_crate
 build() { # CRATE FILE STAMP MADE
     local sum
     rm -f "$3"
-    sum=$(sum_of "$1") &&
-        crates_of "$1" | xargs -r -n 1 -P 2 bash -c 'prove_crate "$0"' &&
+    sum=$(sum_of "$1") || { echo 'build.sh: the toolchain or the sources cannot be read' >&2; return 1; }
+    crates_of "$1" | xargs -r -n 1 -P 2 bash -c 'prove_crate "$0"' &&
         cp "$4" "$2.new" && mv -f "$2.new" "$2" && printf '%s\n' "$sum" >"$3"
 }
 
-only_look=
-[ "${1:-}" != --is-built ] || { only_look=yes; shift; }
-[ $# -gt 0 ] || { echo 'build.sh: name what is to be built: library, programs, or a program' >&2; exit 2; }
-for what in ${*//programs/dump soundings}; do
-    if [ "$what" = library ]; then
+build_one() { # WHAT
+    local crate file made stamp
+    case $1 in
+    library)
         crate=$(sed -n 's/^\([a-z0-9_]*\) staticlib:.*/\1/p' crates.txt)
         file=target/staticlib/libcapgauze_c.a made=crates/$crate/out/lib$crate.a
-    else
-        crate=$what file=target/bin/$what made=crates/$what/out/$what
-        [ -f "crates/$crate/src/main.rt" ] || { echo "build.sh: there is no program $what" >&2; exit 2; }
-    fi
+        ;;
+    dump | soundings) crate=$1 file=target/bin/$1 made=crates/$1/out/$1 ;;
+    *) echo "build.sh: there is no program $1" >&2; exit 2 ;;
+    esac
     stamp=${file%/*}/.${file##*/}.built
-    is_built "$crate" "$file" "$stamp" && continue
+    is_built "$crate" "$file" "$stamp" && return
     [ -z "$only_look" ] || exit 1
     mkdir -p "${file%/*}" || exit 1
     # One run builds it; another waits, and finds it built.
@@ -73,4 +72,16 @@ for what in ${*//programs/dump soundings}; do
         flock 8
         is_built "$crate" "$file" "$stamp" || build "$crate" "$file" "$stamp" "$made" 8>&-
     ) 8>"${file%/*}/.${file##*/}.lock" || exit 1
+}
+
+only_look=
+[ "${1:-}" != --is-built ] || { only_look=yes; shift; }
+[ $# -gt 0 ] || { echo 'build.sh: name what is to be built: library, programs, or a program' >&2; exit 2; }
+for what in "$@"; do
+    if [ "$what" = programs ]; then
+        build_one dump
+        build_one soundings
+    else
+        build_one "$what"
+    fi
 done

@@ -21,7 +21,7 @@ answer() { # ARGUMENT..
 
 is_utf8() { # WORD
     local LC_ALL=C
-    [[ $1 != *[!$'\001'-$'\177']* ]] || printf %s "$1" | iconv -f UTF-8 -t UTF-8 >/dev/null 2>&1
+    [[ $1 != *[!$'\001'-$'\177']* ]] || printf %s "$1" | iconv -f UTF-8 -t UTF-16 >/dev/null 2>&1
 }
 
 # A program opens a file by a name that is UTF-8. A file with any other name is opened here, and the program is given its descriptor.
@@ -33,10 +33,12 @@ name_files() { # ARGUMENT.., into the array `named`
             value=
         elif [ -n "$only_files" ] || [[ $word != -* ]]; then
             if ! is_utf8 "$word"; then
-                if ! { exec {fd}<"$word"; } 2>/dev/null; then
-                    said=$({ true <"$word"; } 2>&1)
+                if ! { command exec {fd}<"$word"; } 2>/dev/null; then
+                    said=$(LC_ALL=C; { true <"$word"; } 2>&1)
+                    [ -n "$said" ] || said='Too many open files'
                     fail "$word: ${said##*: }"
                 fi
+                [ ! -p "$word" ] || exec {fd}< <(exec cat <&"$fd") # a FIFO that is opened again could wait for another writer
                 word=/dev/fd/$fd
             fi
         else

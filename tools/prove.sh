@@ -4,6 +4,6 @@
 prove() { # FILE WHAT..
     local said=$1
     shift
-    ("$root/tools/build.sh" "$@" </dev/null 2>&1 && echo "rt: built") | tee "$said" | grep --line-buffered '^rt: [a-z0-9_]* \(proved\|failed\)' >&2
-    [ "$(tail -n 1 "$said")" = "rt: built" ]
+    "$root/tools/build.sh" "$@" </dev/null 2>&1 | tee "$said" | grep --line-buffered '^rt: [a-z0-9_]* \(proved\|failed\)' >&2
+    [ "${PIPESTATUS[0]}" -eq 0 ]
 }

@@ -68,6 +68,10 @@ try_files() {
     cp "$room/a" "$room/"$'name\xe9'
     run "$room/"$'name\xe9' "$room/b" "$room/c"
     try 'a name that is not UTF-8' 0 "$all" ''
+    mkfifo "$room/"$'fifo\xe9'
+    cat "$room/a" >"$room/"$'fifo\xe9' &
+    run "$room/"$'fifo\xe9' "$room/b" "$room/c"
+    try 'a named pipe whose name is not UTF-8' 0 "$all" ''
 }
 
 try_failures() {

@@ -7,7 +7,7 @@ use Rattle.stream.specs.declared.Source.{Source}
 use Rattle.stream.specs.declared.Got.{Got}
 use Rattle.stream.specs.declared.Got.TheVariants.{Bytes, FileEnd, End, Failed}
 
--- whether an argument brings a file, the standard input or nothing, and not which file
+-- what an argument brings, and not which file
 pub data Kind : Type 0 where
   brings_nothing : Kind
   brings_a_file : Kind

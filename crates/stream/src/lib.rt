@@ -74,7 +74,7 @@ const STATUS_FILE: &str = "/dev/fd/3";
 // The file of the standard output.
 const OUTPUT_FILE: &str = "/dev/fd/1";
 
-// The longest name of a file; the longest name of what failed, after the program's; and the longest line that says why.
+// The longest name of a file; the longest text before a reason, which is the program's name and what failed; and the longest line that has a reason.
 const NAME: usize = 4_096;
 
 const LABEL: usize = 4_224;
@@ -626,7 +626,7 @@ pub fn open_all(rt: &HostRuntime, program: &[u8], files: &mut [Input], editions:
     open_orders(rt, program, files, count, o)
 }
 
-// The output has to be open: a descriptor that is closed has no duplicate. The duplicate is closed after the sync, since closing it could take an error away.
+// The output has to be open: a closed descriptor cannot be duplicated. The duplicate is closed after the sync, since closing it could take an error away.
 fn settle_output(rt: &HostRuntime) -> io::Result<()> {
     let output = rt.stdout();
     match output.as_fd().try_clone_to_owned() {
