@@ -51,13 +51,19 @@ name_files() { # ARGUMENT.., into the array `named`
     done
 }
 
-# A program ends with its own status. The language's runtime ignores SIGPIPE for it, so where nobody reads its output any more it ends with that
-# signal's status, 141, by itself, as other filters do; that is 1 where its caller ignores the signal. It does not see the caller's descriptor 3.
+# Runs a program and ends with its status. The language's runtime ignores SIGPIPE, which leaves two things to do here. Where nobody reads its output any more,
+# a program ends with that signal's status, 141; it is made 1 where the caller ignores the signal. What a program says on standard error is its last act, so
+# it is collected and written here: a pipe that nobody reads then ends the run with 141, and where the signal is ignored it is no failure. The caller's
+# descriptor 3 is closed for the program, which may write its status there (--status).
 run() { # PROGRAM ARGUMENT..
-    local ended named
+    local ended named said
     name_files "${@:2}"
-    { "$1" "${named[@]}" 2>&4 3>&- 4>&-; } 4>&2 2>/dev/null # if a signal ends it, the shell says nothing
-    ended=$?
+    { said=$("$1" "${named[@]}" 2>&1 >&4 3>&- 4>&-; printf '\n%s' "$?"); } 4>&1
+    ended=${said##*$'\n'} said=${said%$'\n'*}
+    if [ -n "$said" ]; then
+        (printf %s "$said") >&2 2>/dev/null
+        [ "$?" -ne 141 ] || exit 141
+    fi
     [ "$ended" -ne 141 ] || [ -z "$(trap -p PIPE)" ] || ended=1
     exit "$ended"
 }

@@ -79,9 +79,11 @@ def program_below(pid, name):
                     words = f.read().split(b"\0")
                 with open(f"/proc/{p}/stat") as f:
                     above = int(f.read().rsplit(")", 1)[1].split()[1])
+                with open(f"/proc/{above}/stat") as f:
+                    higher = int(f.read().rsplit(")", 1)[1].split()[1])
             except OSError:
                 continue
-            if words[0] == f"{folder}/{name}".encode() and pid == above:
+            if words[0] == f"{folder}/{name}".encode() and pid in (above, higher):
                 return int(p)
         time.sleep(0.01)
 

@@ -68,6 +68,7 @@ try_files() {
     cp "$room/a" "$room/"$'name\xe9'
     run "$room/"$'name\xe9' "$room/b" "$room/c"
     try 'a name that is not UTF-8' 0 "$all" ''
+    rm -f "$room/"$'fifo\xe9'
     mkfifo "$room/"$'fifo\xe9'
     cat "$room/a" >"$room/"$'fifo\xe9' &
     run "$room/"$'fifo\xe9' "$room/b" "$room/c"
@@ -131,6 +132,13 @@ try_closed_pipe() {
     { (trap '' PIPE; exec "./$name" "$room/many" 2>"$room/err"); echo $? >"$room/status"; } | head -n 1 >/dev/null
     is 'a closed pipe, SIGPIPE ignored: status' 1 "$(cat "$room/status")"
     is 'a closed pipe, SIGPIPE ignored: error' '' "$(cat "$room/err")"
+    { sleep 0.3; "./$name" --wrong 2>&1 >/dev/null; echo $? >"$room/status"; } | true
+    is 'a message that nobody reads: status' 141 "$(cat "$room/status")"
+    { sleep 0.3; (trap '' PIPE; exec "./$name" --wrong 2>&1 >/dev/null); echo $? >"$room/status"; } | true
+    is 'a message that nobody reads, SIGPIPE ignored: status' 2 "$(cat "$room/status")"
+    { sleep 0.3; "./$name" --count "$room/a" 2>&1 >/dev/null; echo $? >"$room/status"; } | true
+    is 'counts that nobody reads: status' 141 "$(cat "$room/status")"
+    is 'a message to a full disk: status' 2 "$("./$name" --wrong 2>/dev/full; echo $?)"
     (ulimit -f 8; exec "./$name" "$room/many" >"$room/out" 2>"$room/err")
     is 'ended by a signal (SIGXFSZ): status' 153 $?
     is 'ended by a signal (SIGXFSZ): error' '' "$(cat "$room/err")"
