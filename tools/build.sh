@@ -44,13 +44,13 @@ prove_crate() { # CRATE
 }
 export -f prove_crate
 
-# Two are proved at a time. One that needs another, which is being proved, waits for it. The result is copied whole or not at all.
+# Two are proved at a time. One that needs another, which is being proved, waits for it. The result is copied whole or not at all, and one that is there stays, with
+# its stamp, if another cannot be built.
 build() { # CRATE FILE STAMP MADE
     local sum
-    rm -f "$3"
     sum=$(sum_of "$1") || { echo 'build.sh: the toolchain or the sources cannot be read' >&2; return 1; }
     crates_of "$1" | xargs -r -n 1 -P 2 bash -c 'prove_crate "$0"' &&
-        cp "$4" "$2.new" && mv -f "$2.new" "$2" && printf '%s\n' "$sum" >"$3"
+        cp "$4" "$2.new" && rm -f "$3" && mv -f "$2.new" "$2" && printf '%s\n' "$sum" >"$3"
 }
 
 build_one() { # WHAT
