@@ -1,9 +1,9 @@
 -- The loops that put digits: where each stands, and what a turn does.
-use Prim.Native.Nat.{ℕ, zero, suc, ◌+◌, ◌-◌, ◌*◌, ◌/◌, ◌%◌, ◌^◌, ◌≤◌, ◌<◌}
+use Prim.Native.Nat.{ℕ, zero, suc, max, ◌+◌, ◌-◌, ◌*◌, ◌/◌, ◌%◌, ◌^◌, ◌≤◌, ◌<◌}
 use mathlib.Core.Path.{◌≡◌, refl, ◌∙◌}
 use mathlib.Core.List.{List, [], ◌∷◌, ◌++◌}
 use native.Mathlib.Omega.{arith}
-use native.Mathlib.Nat.{pow-suc}
+use native.Mathlib.Nat.{pow-suc, one-le-pow}
 use native.Mathlib.Numerals.{add-one}
 use lib.ListN.{length, drop, set, get_or, length-set, drop_of_length-le}
 use lib.Seq.{sets, drop-cons}
@@ -51,45 +51,28 @@ module _ {b : List ℕ} {at base width v : ℕ} {buf : List ℕ} {x left : ℕ} 
       let r : buf ≡ sets b at (digits base width v) = rw z at w.rest in
       rw (put-roomy b at (digits base width v) (omega (arith, length_digits base width v, w.roomy)), length_digits base width v, r)
 
--- ---- decimal places, counted
+-- ---- decimal places: one more than the logarithm
 
-pub record Counting (v n x : ℕ) : Type 0 where
-  pub some : 1 ≤ n
-  pub few : n ≤ 20
-  pub small : x < 10 ^ (21 - n)
-  pub rest : places_to 19 v + 1 ≡ n + places_to (20 - n) x
+pub places_to-power : (n k v : ℕ) → k ≤ n → 10 ^ k ≤ v → v < 10 * 10 ^ k → places_to n v ≡ k + 1
+unfolding places_to
+places_to-power zero k v f g h = omega arith
+places_to-power (suc n) zero v f g h = places-one (suc n) v (omega arith)
+places_to-power (suc n) (suc k) v f g h =
+    let p = pow-suc 10 k in
+    let pos : 1 ≤ 10 ^ k = one-le-pow k 10 (omega arith) in
+    omega (arith, places-more n v (omega arith), places_to-power n k (v / 10) (omega arith) (omega arith) (omega arith))
 
-pub count-start : (v : ℕ) → v < 2 ^ 64 → Counting v 1 v
-count-start v h = record { some = omega arith; few = omega arith; small = omega arith; rest = omega arith }
-
-two-places : (m x : ℕ) → 10 ≤ x → x < 10 ^ m → 2 ≤ m
-two-places zero x g h = absurd (omega arith)
-two-places (suc zero) x g h = absurd (omega arith)
-two-places (suc (suc m)) x g h = omega arith
-
-module _ {v n x : ℕ} (w : Counting v n x) where
-  pub count_room : 10 ≤ x → n < 20
-  count_room g = omega (arith, two-places (21 - n) x g w.small)
-
-  pub count-more : 10 ≤ x → Counting v (n + 1) (x / 10)
-  count-more g =
-      let k = 19 - n in
-      let few = count_room g in
-      let e : 20 - n ≡ suc k = omega arith in
-      let f : 21 - n ≡ suc (suc k) = omega arith in
-      let e' : 20 - (n + 1) ≡ k = omega arith in
-      let f' : 21 - (n + 1) ≡ suc k = omega arith in
-      let s : x < 10 ^ suc (suc k) = rw f at w.small in
-      let r : places_to 19 v + 1 ≡ n + places_to (suc k) x = rw e at w.rest in
-      record {
-        some = omega arith;
-        few = omega arith;
-        small = rw f' (omega (arith, pow-suc 10 (suc k)));
-        rest = rw e' (omega (arith, places-more k x g));
-      }
-
-  pub count-done : x < 10 → n ≡ places_to 19 v
-  count-done h = omega (arith, w.rest, w.some, places-one (20 - n) x h)
+-- 0 has the place that 1 has
+pub places-max : (v w k : ℕ) → w ≡ max v 1 → 10 ^ k ≤ w → w < 10 * 10 ^ k → k < 20 → k + 1 ≡ places_to 19 v
+places-max v w k e g h l = go v e
+  where
+    go : (x : ℕ) → w ≡ max x 1 → k + 1 ≡ places_to 19 x
+    go zero e =
+        let q : w ≡ 1 = omega arith in
+        omega (arith, places-one 19 0 (omega arith), places-one 19 1 (omega arith), rw q at (places_to-power 19 k w (omega arith) g h))
+    go (suc x) e =
+        let q : w ≡ suc x = omega arith in
+        omega (arith, rw q at (places_to-power 19 k w (omega arith) g h))
 
 -- ---- bytes, two digits each
 
@@ -103,25 +86,29 @@ pub hex-start : (b : List ℕ) (at : ℕ) (bytes : List ℕ) → at + 2 * length
 hex-start b at bytes h = record { put = put-start b at (hexed bytes) (omega (arith, length-hexed bytes)) }
 
 module _ {b : List ℕ} {at : ℕ} {bytes buf : List ℕ} {p i : ℕ} (w : Hexing b at bytes buf p i) where
-  -- the two digits of the next byte
-  module _ (h : i < length bytes) (small : get_or bytes i 0 < 256) {g l : ℕ} (q : g ≡ glyph (get_or bytes i 0 / 16)) (r : l ≡ glyph (get_or bytes i 0 % 16)) where
-    two_digits : Putting b at (hexed bytes) buf p (g ∷ l ∷ hexed (drop (i + 1) bytes))
+  module _ (h : i < length bytes) (small : get_or bytes i 0 < 256) where
+    -- the two digits of the next byte
+    two_digits : (g l : ℕ) → g ≡ glyph (get_or bytes i 0 / 16) → l ≡ glyph (get_or bytes i 0 % 16)
+        → Putting b at (hexed bytes) buf p (g ∷ l ∷ hexed (drop (i + 1) bytes))
     unfolding hexed digits
-    two_digits =
+    two_digits g l q r =
         let x = get_or bytes i 0 in
         let e : x / 16 % 16 ≡ x / 16 = omega arith in
         rw (q, r, add-one i, ← e) (rw (drop-cons bytes i 0 h) at w.put)
 
     pub hex-inside : p < length buf
-    hex-inside = put-inside two_digits
+    hex-inside = put-inside (two_digits _ _ refl refl)
 
-    pub hex-next : p + 1 < length (set buf p g)
-    hex-next = put-inside (put-more two_digits)
+    pub hex-next : (g : ℕ) → p + 1 < length (set buf p g)
+    hex-next g =
+        let first = glyph (get_or bytes i 0 / 16) in
+        omega (arith, length-set buf p g, length-set buf p first, put-inside (put-more (two_digits first _ refl refl)))
 
-    pub hex-more : Hexing b at bytes (set (set buf p g) (p + 1) l) (p + 2) (i + 1)
-    hex-more =
+    pub hex-more : {g l : ℕ} → g ≡ glyph (get_or bytes i 0 / 16) → l ≡ glyph (get_or bytes i 0 % 16)
+        → Hexing b at bytes (set (set buf p g) (p + 1) l) (p + 2) (i + 1)
+    hex-more {g} {l} q r =
         let e : p + 2 ≡ p + 1 + 1 = omega arith in
-        record { put = rw e (put-more (put-more two_digits)) }
+        record { put = rw e (put-more (put-more (two_digits g l q r))) }
 
   pub hex-done : length bytes ≤ i → record { next = p; buf = buf } ≡ put_at b at (hexed bytes)
   unfolding hexed

@@ -1,9 +1,8 @@
 -- The cases of the digits' definitions, and how long digits are.
-use Rattle.std.specs.Prelude.{ℕ, zero, suc, ◌+◌, ◌-◌, ◌*◌, ◌/◌, ◌%◌, ◌≤◌, ◌<◌, ◌≡◌, refl, Bool, true, false, List, [], ◌∷◌, leb, ltb, length}
+use Rattle.std.specs.Prelude.{ℕ, zero, suc, ◌+◌, ◌-◌, ◌*◌, ◌/◌, ◌%◌, ◌≤◌, ◌<◌, ◌≡◌, refl, Bool, true, false, Some, None, List, [], ◌∷◌, leb, ltb, length}
 use Rattle.std.proofs.Common.{◌∙◌, arith, le-leb, lt-ltb, le-ltb, leb-true, ltb-true, length-append}
 use Rattle.std.proofs.lemmas.Bool.{lt-leb}
 use Rattle.text_digits.specs.Digits.{between, digit_of, glyph, digits, places_to, decimal, hexed}
-use Rattle.text_digits.specs.declared.Digit.TheVariants.{Value, Other}
 
 -- ---- a run of characters
 
@@ -36,19 +35,19 @@ module _ (low high c : ℕ) where
 -- ---- a digit
 
 module _ (c : ℕ) where
-  pub figure : 48 ≤ c → c < 58 → digit_of c ≡ Value (c - 48)
+  pub figure : 48 ≤ c → c < 58 → digit_of c ≡ Some (c - 48)
   unfolding digit_of
   figure g h = rw (in-run 48 58 c g h)
 
-  pub capital : 65 ≤ c → c < 71 → digit_of c ≡ Value (c - 55)
+  pub capital : 65 ≤ c → c < 71 → digit_of c ≡ Some (c - 55)
   unfolding digit_of
   capital g h = rw (above-run 48 58 c (omega arith), in-run 65 71 c g h)
 
-  pub small : 97 ≤ c → c < 103 → digit_of c ≡ Value (c - 87)
+  pub small : 97 ≤ c → c < 103 → digit_of c ≡ Some (c - 87)
   unfolding digit_of
   small g h = rw (above-run 48 58 c (omega arith), above-run 65 71 c (omega arith), in-run 97 103 c g h)
 
-  pub strange : between 48 58 c ≡ false → between 65 71 c ≡ false → between 97 103 c ≡ false → digit_of c ≡ Other
+  pub strange : between 48 58 c ≡ false → between 65 71 c ≡ false → between 97 103 c ≡ false → digit_of c ≡ None
   unfolding digit_of
   strange p q r = rw (p, q, r)
 
@@ -57,7 +56,7 @@ pub record Digital (c v : ℕ) : Type 0 where
   pub below : v < 16
   pub worth : v ≡ c % 16 + c / 64 * 9
 
-pub digital : (c v : ℕ) → digit_of c ≡ Value v → Digital c v
+pub digital : (c v : ℕ) → digit_of c ≡ Some v → Digital c v
 digital c v e = go (runs 48 58 c) (runs 65 71 c) (runs 97 103 c)
   where
     go : Run 48 58 c → Run 65 71 c → Run 97 103 c → Digital c v

@@ -1,8 +1,6 @@
 -- Digits as characters: what a character is worth, and a number or bytes as digits.
-use Rattle.std.specs.Prelude.{ℕ, zero, suc, ◌+◌, ◌-◌, ◌*◌, ◌/◌, ◌%◌, Bool, false, List, [], ◌∷◌, ◌++◌, ltb, leb}
+use Rattle.std.specs.Prelude.{ℕ, zero, suc, ◌+◌, ◌-◌, ◌*◌, ◌/◌, ◌%◌, Bool, false, Option, Some, None, List, [], ◌∷◌, ◌++◌, ltb, leb}
 use Rattle.wire.specs.Choose.{choose}
-use Rattle.text_digits.specs.declared.Digit.{Digit}
-use Rattle.text_digits.specs.declared.Digit.TheVariants.{Value, Other}
 
 -- ---- one character
 
@@ -11,9 +9,9 @@ abbrev pub between : ℕ → ℕ → ℕ → Bool
 between low high c = choose (leb low c) (ltb c high) false
 
 -- Rule D1: 0 to 9, and A to F in either letter case
-unfoldable pub digit_of : ℕ → Digit
+unfoldable pub digit_of : ℕ → Option ℕ
 digit_of c =
-    choose (between 48 58 c) (Value (c - 48)) (choose (between 65 71 c) (Value (c - 55)) (choose (between 97 103 c) (Value (c - 87)) Other))
+    choose (between 48 58 c) (Some (c - 48)) (choose (between 65 71 c) (Some (c - 55)) (choose (between 97 103 c) (Some (c - 87)) None))
 
 -- Rule D6: the character of a digit, letters as capitals
 unfoldable pub glyph : ℕ → ℕ
@@ -36,9 +34,9 @@ unfoldable pub decimal : ℕ → List ℕ
 decimal v = digits 10 (places_to 19 v) v
 
 -- digits read in a base, after a number that was read
-abbrev pub worth : Digit → ℕ
-worth (Value v) = v
-worth Other = 0
+abbrev pub worth : Option ℕ → ℕ
+worth (Some v) = v
+worth None = 0
 
 unfoldable pub reads_on : ℕ → ℕ → List ℕ → ℕ
 reads_on base n [] = n

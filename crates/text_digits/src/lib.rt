@@ -1,5 +1,5 @@
-// Numbers and bytes put as digits at a place of a lent buffer. Each put answers the place after what it put; where that has no room, the place
-// given, and nothing is written.
+// Numbers and bytes put as digits at a place of a buffer. Each function returns the place after what it put. Where that has no room, it writes nothing and
+// returns the place that it was given.
 #![tactic(auto)]
 
 ghost use Rattle.std.specs.Prelude.{◌≡◌, ◌≤◌, ◌<◌};
@@ -7,20 +7,15 @@ ghost use Rattle.place.specs.Place.{put_at};
 ghost use Rattle.text_digits.specs.Digits.{digits, places_to, decimal, hexed};
 ghost use Rattle.text_digits.specs.Digits.{glyph as Digits·glyph};
 
-#[derive(Clone, Copy)]
-pub enum Digit {
-    Value(u8),
-    Other,
-}
-
+// The character of a digit, letters as capitals.
 fn glyph(d: u8) -> u8
     requires { d < 16 }
     ensures { result ≡ Digits·glyph d }
 {
-    if d < 10 { 48 + d } else { 55 + d }
+    if d < 10 { b'0' + d } else { b'A' + (d - 10) }
 }
 
-// A number's last digits in a base, so many.
+// The last `width` digits of a number in a base.
 fn put_digits(buf: &mut [u8], at: usize, base: u64, width: usize, v: u64) -> usize
     requires { (0 < base) × (base ≤ 16) }
     ensures { record { next = result; buf = buf.new } ≡ put_at buf.old at (digits base width v) }
@@ -32,16 +27,14 @@ fn put_digits(buf: &mut [u8], at: usize, base: u64, width: usize, v: u64) -> usi
         return at;
     }
     let mut x = v;
-    let mut left = width;
-    while 0 < left {
-        left -= 1;
-        buf[at + left] = glyph((x % base) as u8);
-        x = x / base;
+    for i in (0..width).rev() {
+        buf[at + i] = glyph((x % base) as u8);
+        x /= base;
     }
     at + width
 }
 
-// A number's last digits in hexadecimal, so many, with zeros in front.
+// The last `width` digits of a number in hexadecimal, with zeros in front.
 pub fn put_hex(buf: &mut [u8], at: usize, width: usize, v: u64) -> usize
     ensures { record { next = result; buf = buf.new } ≡ put_at buf.old at (digits 16 width v) }
 {
@@ -52,13 +45,7 @@ pub fn put_hex(buf: &mut [u8], at: usize, width: usize, v: u64) -> usize
 fn decimal_len(v: u64) -> usize
     ensures { result ≡ places_to 19 v }
 {
-    let mut n: usize = 1;
-    let mut x = v;
-    while 10 <= x {
-        x = x / 10;
-        n += 1;
-    }
-    n
+    v.max(1).ilog10() as usize + 1
 }
 
 // A number in decimal.
@@ -79,13 +66,10 @@ pub fn put_hex_bytes(buf: &mut [u8], at: usize, bytes: &[u8]) -> usize
         return at;
     }
     let mut p = at;
-    let mut i = 0;
-    while i < bytes.len() {
-        let b = bytes[i];
+    for &b in bytes {
         buf[p] = glyph(b / 16);
         buf[p + 1] = glyph(b % 16);
         p += 2;
-        i += 1;
     }
     p
 }

@@ -1,17 +1,7 @@
--- `text_hex::decimal_len` meets its contract.
-use native.Mathlib.Omega.{arith}
-use Rattle.text_digits.proofs.Turns.{Counting, count-start, count_room, count-more, count-done}
-use borrow.Author.Rules.{rules}
+-- A number has a digit more than its logarithm.
+use Rattle.std.proofs.Common.{arith}
+use Rattle.text_digits.proofs.Turns.{places-max}
 use Rattle.text_digits.proofs.decimal_len.Goals as goal
 
-pub loop-x-init : goal.loop-x-init
-loop-x-init c = count-start _ c.ranges.v.fits
-
-pub overflow_add-n : goal.overflow_add-n
-overflow_add-n c = omega (arith, count_room c.loop-x.invariant c.loop-x-test.true)
-
-pub loop-x-preserved : goal.loop-x-preserved
-loop-x-preserved c = count-more c.loop-x.invariant c.loop-x-test.true
-
 pub returns : goal.returns
-returns c = count-done c.loop-x.invariant c.loop-x-test.false
+returns c = places-max _ _ _ c.max.ensures c.ilog10.ensures.power_le c.ilog10.ensures.next_power_gt (omega arith)

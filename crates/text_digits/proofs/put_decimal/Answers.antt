@@ -1,6 +1,5 @@
 -- `text_hex::put_decimal` meets its contract.
 use Rattle.text_digits.specs.Digits.{decimal}
-use borrow.Author.Rules.{rules}
 use Rattle.text_digits.proofs.put_decimal.Goals as goal
 
 pub returns : goal.returns

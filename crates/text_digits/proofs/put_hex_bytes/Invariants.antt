@@ -1,14 +1,6 @@
--- `text_hex::put_hex_bytes` meets its contract.
-use mathlib.Core.Path.{sym, refl}
-use native.Mathlib.Omega.{arith}
-use Rattle.text_digits.proofs.Turns.{Hexing, hex-none, hex-start, hex-inside, hex-next, hex-more, hex-done}
-use borrow.Author.Rules.{rules}
-use lib.ListN.{length}
-use Prim.Native.Nat.{◌-◌}
+-- The digits of the bytes that are left, put after those that are there, are what was asked for.
+use Rattle.text_digits.proofs.Turns.{Hexing}
 use Rattle.text_digits.proofs.put_hex_bytes.Given as goal
 
-abbrev pub invariant-loop-i : goal.invariant-loop-i
-invariant-loop-i l = Hexing l.initial.buf l.at l.bytes l.buf l.p l.i
-
-abbrev pub decreases-loop-i : goal.decreases-loop-i
-decreases-loop-i l = length l.bytes - l.i
+abbrev pub invariant-loop-b : goal.invariant-loop-b
+invariant-loop-b l = Hexing l.initial.buf l.at l.bytes l.buf l.p l.b-index
