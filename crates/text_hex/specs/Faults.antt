@@ -1,61 +1,60 @@
--- How a line is decided before it is decoded: a character that is no digit is a fault, and characters without one are worth known numbers.
-use Rattle.std.specs.Prelude.{ℕ, ◌+◌, ◌*◌, ◌/◌, ◌%◌, ◌≤◌, ◌<◌, max, ◌≡◌, refl, Bool, true, false, List, [], ◌∷◌, length, take, leb}
-use Rattle.std.proofs.Common.{ap, ◌∙◌, sym, arith, leb-true, leb-false, length-take-le}
+-- How a line is decided before it is decoded: whether all its characters are digits, and the known numbers that digits are worth.
+use Rattle.std.specs.Prelude.{ℕ, ◌+◌, ◌*◌, ◌/◌, ◌%◌, ◌≤◌, ◌<◌, ◌≡◌, ◌⊎◌, refl, Bool, true, false, ◌&&◌, Option, Some, None, is_some, Result, Ok, Err, List, [], ◌∷◌, length, take, leb, MatchBool}
+use Rattle.std.specs.Char.{IsAsciiHexdigit, IsNotAsciiHexdigit}
+use Rattle.std.proofs.Common.{inl, inr, ap, ◌∙◌, sym, arith, leb-true, leb-false, length-take-le}
+use Rattle.std.proofs.lemmas.Bool.{and_parts}
 use Rattle.std.proofs.lemmas.List.Edits.{sets}
 use Rattle.std.proofs.Math.Seq.{length-sets}
-use Rattle.wire.specs.Choose.{choose}
 use Rattle.text_digits.specs.Digits.{between, digit_of}
-use Rattle.text_digits.specs.DigitLaws.{Run, Inside, Outside, runs, figure, capital, small, strange, digital}
+use Rattle.text_digits.specs.DigitLaws.{below-run, above-run, figure, capital, small, strange, digital}
 use Rattle.text_hex.specs.Frame.{Decoded, Decodes, Fails, joined, decoded, joins, line_limit, Framed, framed, too_long, frame_of, above-limit}
 use Rattle.text_hex.specs.Frame.{above-line, above-out, fitting}
-use Rattle.text_digits.specs.declared.Digit.{Digit}
-use Rattle.text_digits.specs.declared.Digit.TheVariants.{Value, Other}
-use Rattle.text_hex.specs.declared.Frame.TheVariants.{Bytes, Long, Hex}
+use Rattle.text_hex.specs.declared.FrameError.{FrameError}
+use Rattle.text_hex.specs.declared.FrameError.TheVariants.{TooLong, NotHex}
 
 -- ---- one character
 
-abbrev pub wrong : Digit → ℕ
-wrong (Value v) = 0
-wrong Other = 1
-
-unfoldable pub fault_of : ℕ → ℕ
-fault_of c = wrong (digit_of c)
+-- whether it is a digit
+unfoldable pub is_digit : ℕ → Bool
+is_digit c = is_some (digit_of c)
 
 -- what a digit is worth: its low four bits, and nine more for a letter
 abbrev pub known_of : ℕ → ℕ
 known_of c = c % 16 + c / 64 * 9
 
-pub fault-tests : (c : ℕ) → choose (between 48 58 c) 0 (choose (between 65 71 c) 0 (choose (between 97 103 c) 0 1)) ≡ fault_of c
-unfolding fault_of
-fault-tests c = go (runs 48 58 c) (runs 65 71 c) (runs 97 103 c)
-  where
-    go : Run 48 58 c → Run 65 71 c → Run 97 103 c → choose (between 48 58 c) 0 (choose (between 65 71 c) 0 (choose (between 97 103 c) 0 1)) ≡ fault_of c
-    go (Inside g h t) q r = rw (figure c g h, t)
-    go (Outside p) (Inside g h t) r = rw (capital c g h, p, t)
-    go (Outside p) (Outside q) (Inside g h t) = rw (small c g h, p, q, t)
-    go (Outside p) (Outside q) (Outside r) = rw (strange c p q r, p, q, r)
+outside : (low high c : ℕ) → (c < low) ⊎ (high ≤ c) → between low high c ≡ false
+outside low high c (inl h) = below-run low high c h
+outside low high c (inr h) = above-run low high c h
 
-pub faultless : (c : ℕ) → fault_of c ≡ 0 → digit_of c ≡ Value (known_of c)
-unfolding fault_of
-faultless c e = go (digit_of c) refl
-  where
-    go : (d : Digit) → digit_of c ≡ d → digit_of c ≡ Value (known_of c)
-    go (Value v) p = p ∙ ap Value (digital c v p).worth
-    go Other p = let z : ◌≡◌ {A = ℕ} 1 0 = ap wrong (sym p) ∙ e in absurd (omega arith)
+-- std's test of a digit
+pub hexdigit : (c : ℕ) (b : Bool) → MatchBool b (IsAsciiHexdigit c) (IsNotAsciiHexdigit c) → b ≡ is_digit c
+unfolding is_digit
+hexdigit c true (inl (inl r)) = rw (figure c r.0 (omega arith))
+hexdigit c true (inl (inr r)) = rw (capital c r.0 (omega arith))
+hexdigit c true (inr r) = rw (small c r.0 (omega arith))
+hexdigit c false r = rw (strange c (outside 48 58 c r.0.0) (outside 65 71 c r.0.1) (outside 97 103 c r.1))
 
-pub faulty : (c : ℕ) → 0 < fault_of c → digit_of c ≡ Other
-unfolding fault_of
-faulty c h = go (digit_of c) refl
+pub digit-known : (c : ℕ) → is_digit c ≡ true → digit_of c ≡ Some (known_of c)
+unfolding is_digit
+digit-known c e = go (digit_of c) refl
   where
-    go : (d : Digit) → digit_of c ≡ d → digit_of c ≡ Other
-    go (Value v) p = let z : fault_of c ≡ 0 = ap wrong p in absurd (omega arith)
-    go Other p = p
+    go : (d : Option ℕ) → digit_of c ≡ d → digit_of c ≡ Some (known_of c)
+    go (Some v) p = p ∙ ap Some (digital c v p).worth
+    go None p = let z : false ≡ true = ap is_some (sym p) ∙ e in cc
+
+pub digit-none : (c : ℕ) → is_digit c ≡ false → digit_of c ≡ None
+unfolding is_digit
+digit-none c e = go (digit_of c) refl
+  where
+    go : (d : Option ℕ) → digit_of c ≡ d → digit_of c ≡ None
+    go (Some v) p = let z : true ≡ false = ap is_some (sym p) ∙ e in cc
+    go None p = p
 
 -- ---- a line
 
-unfoldable pub worst : List ℕ → ℕ
-worst [] = 0
-worst (c ∷ cs) = max (fault_of c) (worst cs)
+unfoldable pub all_digits : List ℕ → Bool
+all_digits [] = true
+all_digits (c ∷ cs) = is_digit c && all_digits cs
 
 -- the bytes of a line of digits
 unfoldable pub bytes_in : List ℕ → List ℕ
@@ -69,33 +68,37 @@ odd-fails [] e = absurd (omega arith)
 odd-fails (c ∷ []) e = refl
 odd-fails (c ∷ d ∷ cs) e = rw (odd-fails cs (omega arith)) (last (digit_of c) (digit_of d))
   where
-    last : (h l : Digit) → joined h l Fails ≡ Fails
-    last (Value h) (Value l) = refl
-    last (Value h) Other = refl
-    last Other l = refl
+    last : (h l : Option ℕ) → joined h l Fails ≡ Fails
+    last (Some h) (Some l) = refl
+    last (Some h) None = refl
+    last None l = refl
 
-pub fault-fails : (cs : List ℕ) → 0 < worst cs → decoded cs ≡ Fails
-unfolding decoded worst fault_of
-fault-fails [] h = absurd (omega arith)
-fault-fails (c ∷ []) h = refl
-fault-fails (c ∷ d ∷ cs) h = go (joined (digit_of c) (digit_of d) (decoded cs)) refl (fault-fails cs)
+pub other-fails : (cs : List ℕ) → all_digits cs ≡ false → decoded cs ≡ Fails
+unfolding decoded all_digits is_digit
+other-fails [] h = cc
+other-fails (c ∷ []) h = refl
+other-fails (c ∷ d ∷ cs) h = go (digit_of c) refl (digit_of d) refl (other-fails cs)
   where
-    go : (r : Decoded) → joined (digit_of c) (digit_of d) (decoded cs) ≡ r → (0 < worst cs → decoded cs ≡ Fails)
+    go : (x : Option ℕ) → digit_of c ≡ x → (y : Option ℕ) → digit_of d ≡ y → (all_digits cs ≡ false → decoded cs ≡ Fails)
         → joined (digit_of c) (digit_of d) (decoded cs) ≡ Fails
-    go (Decodes bs) e ih =
-        let j = joins (digit_of c) (digit_of d) (decoded cs) bs e in
-        let x : fault_of c ≡ 0 = ap wrong j.first in
-        let y : fault_of d ≡ 0 = ap wrong j.second in
-        let z : ◌≡◌ {A = ℕ} 0 1 = cc (ih (omega (arith, h))) in
-        absurd (omega arith)
-    go Fails e ih = e
+    go (Some x) p (Some y) q ih = let g : all_digits cs ≡ false = simp (p, q) at h in rw (p, q, ih g)
+    go (Some x) p None q ih = rw (p, q)
+    go None p y q ih = rw p
 
-pub good-decodes : (cs : List ℕ) → length cs % 2 ≡ 0 → worst cs ≡ 0 → decoded cs ≡ Decodes (bytes_in cs)
-unfolding decoded worst bytes_in
-good-decodes [] e h = refl
-good-decodes (c ∷ []) e h = absurd (omega arith)
-good-decodes (c ∷ d ∷ cs) e h =
-    rw (faultless c (omega (arith, h)), faultless d (omega (arith, h)), good-decodes cs (omega arith) (omega (arith, h)))
+pub digits-decode : (cs : List ℕ) → length cs % 2 ≡ 0 → all_digits cs ≡ true → decoded cs ≡ Decodes (bytes_in cs)
+unfolding decoded all_digits bytes_in
+digits-decode [] e h = refl
+digits-decode (c ∷ []) e h = absurd (omega arith)
+digits-decode (c ∷ d ∷ cs) e h =
+    let x = and_parts (is_digit c) (is_digit d && all_digits cs) h in
+    let y = and_parts (is_digit d) (all_digits cs) x.1 in
+    rw (digit-known c x.0, digit-known d y.0, digits-decode cs (omega arith) y.1)
+
+pub bytes_in-short : (cs : List ℕ) → length cs < 2 → bytes_in cs ≡ []
+unfolding bytes_in
+bytes_in-short [] h = refl
+bytes_in-short (c ∷ []) h = refl
+bytes_in-short (c ∷ d ∷ cs) h = absurd (omega arith)
 
 pub length-bytes-in : (cs : List ℕ) → length (bytes_in cs) ≡ length cs / 2
 unfolding bytes_in
@@ -103,11 +106,10 @@ length-bytes-in [] = refl
 length-bytes-in (c ∷ []) = refl
 length-bytes-in (c ∷ d ∷ cs) = omega (arith, length-bytes-in cs)
 
--- what decoding may rely on: so many bytes' characters are there and without a fault, and the bytes have room
-pub record Decodable (line : List ℕ) (n : ℕ) (out : List ℕ) : Type 0 where
-  pub reach : 2 * n ≤ length line
-  pub clean : worst (take (2 * n) line) ≡ 0
-  pub room : n ≤ length out
+-- what decoding relies on: all characters are digits, and the bytes have room
+pub record Decodable (digits out : List ℕ) : Type 0 where
+  pub clean : all_digits digits ≡ true
+  pub room : length digits / 2 ≤ length out
 
 -- what a line that fits is answered
 pub record Fitting (line : List ℕ) (chars : ℕ) (out : List ℕ) : Type 0 where
@@ -119,25 +121,22 @@ module _ {line : List ℕ} {chars : ℕ} {out : List ℕ} (f : Fitting line char
   by-decoded : {d : Decoded} → decoded (take chars line) ≡ d → frame_of line chars out ≡ framed out d
   by-decoded e = fitting line chars out f.limit f.reach f.room ∙ ap (framed out) e
 
-  pub odd-frame : 0 < chars % 2 → frame_of line chars out ≡ record { answer = Hex; out = out }
+  pub odd-frame : 0 < chars % 2 → frame_of line chars out ≡ record { answer = Err NotHex; out = out }
   odd-frame h = by-decoded (odd-fails (take chars line) (omega (arith, length-take-le chars line f.reach)))
 
-  pub bad-frame : 0 < worst (take chars line) → frame_of line chars out ≡ record { answer = Hex; out = out }
-  bad-frame h = by-decoded (fault-fails (take chars line) h)
+  pub bad-frame : all_digits (take chars line) ≡ false → frame_of line chars out ≡ record { answer = Err NotHex; out = out }
+  bad-frame h = by-decoded (other-fails (take chars line) h)
 
-  pub good-frame : chars % 2 ≤ 0 → worst (take chars line) ≤ 0
-      → frame_of line chars out ≡ record { answer = Bytes (chars / 2); out = sets out 0 (bytes_in (take (2 * (chars / 2)) line)) }
+  pub good-frame : chars % 2 ≤ 0 → all_digits (take chars line) ≡ true
+      → frame_of line chars out ≡ record { answer = Ok (chars / 2); out = sets out 0 (bytes_in (take chars line)) }
   good-frame g h =
       let cs = take chars line in
       let n = length-take-le chars line f.reach in
-      let e : 2 * (chars / 2) ≡ chars = omega arith in
       let k : length (bytes_in cs) ≡ chars / 2 = omega (arith, length-bytes-in cs) in
-      by-decoded (good-decodes cs (omega arith) (omega arith)) ∙ rw (e, k)
+      by-decoded (digits-decode cs (omega arith) h) ∙ rw k
 
-  pub decodable : chars % 2 ≤ 0 → worst (take chars line) ≤ 0 → Decodable line (chars / 2) out
-  decodable g h =
-      let e : 2 * (chars / 2) ≡ chars = omega arith in
-      record { reach = omega (arith, f.reach); clean = rw e (omega arith); room = f.room }
+  pub decodable : all_digits (take chars line) ≡ true → Decodable (take chars line) out
+  decodable h = record { clean = h; room = omega (arith, f.room, length-take-le chars line f.reach) }
 
 -- ---- how many bytes a frame has
 
@@ -150,24 +149,24 @@ decoded-half (c ∷ d ∷ cs) bs e =
     omega (arith, ap length j.bytes, decoded-half cs j.rest j.behind)
 
 -- bytes that were answered are half of the characters, and all in what was lent
-pub half-frame : (line : List ℕ) (chars : ℕ) (out : List ℕ) (k : ℕ) (b : List ℕ) → record { answer = Bytes k; out = b } ≡ frame_of line chars out
+pub half-frame : (line : List ℕ) (chars : ℕ) (out : List ℕ) (k : ℕ) (b : List ℕ) → record { answer = Ok k; out = b } ≡ frame_of line chars out
     → (2 * k ≤ line_limit) × (k ≤ length b)
 half-frame line chars out k b e = go (leb chars line_limit) refl (leb chars (length line)) refl (leb (chars / 2) (length out)) refl
   where
     no-long : {A : Type 0} → frame_of line chars out ≡ too_long out → A
-    no-long h = let z : Bytes k ≡ Long = ap (λ (f : Framed). f.answer) (e ∙ h) in let w : ◌≡◌ {A = ℕ} 0 1 = cc in absurd (omega arith)
+    no-long h = let z : ◌≡◌ {A = Result ℕ FrameError} (Ok k) (Err TooLong) = ap (λ (f : Framed). f.answer) (e ∙ h) in let w : ◌≡◌ {A = ℕ} 0 1 = cc in absurd (omega arith)
 
     half : Fitting line chars out → (d : Decoded) → decoded (take chars line) ≡ d → (2 * k ≤ line_limit) × (k ≤ length b)
     half f (Decodes bs) d =
         let q = e ∙ by-decoded f d in
-        let z : Bytes k ≡ Bytes (length bs) = ap (λ (x : Framed). x.answer) q in
+        let z : ◌≡◌ {A = Result ℕ FrameError} (Ok k) (Ok (length bs)) = ap (λ (x : Framed). x.answer) q in
         let n : k ≡ length bs = cc in
         let m = decoded-half (take chars line) bs d in
         let l = length-take-le chars line f.reach in
         let o : length b ≡ length out = ap (λ (x : Framed). length x.out) q ∙ length-sets out 0 bs in
         (omega (arith, f.limit), omega (arith, f.room))
     half f Fails d =
-        let z : Bytes k ≡ Hex = ap (λ (x : Framed). x.answer) (e ∙ by-decoded f d) in
+        let z : ◌≡◌ {A = Result ℕ FrameError} (Ok k) (Err NotHex) = ap (λ (x : Framed). x.answer) (e ∙ by-decoded f d) in
         let w : ◌≡◌ {A = ℕ} 0 1 = cc in absurd (omega arith)
 
     go : (s : Bool) → leb chars line_limit ≡ s → (t : Bool) → leb chars (length line) ≡ t → (u : Bool) → leb (chars / 2) (length out) ≡ u

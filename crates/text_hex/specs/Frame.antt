@@ -1,25 +1,23 @@
 -- A line of characters as the bytes of a frame.
-use Rattle.std.specs.Prelude.{ℕ, ◌+◌, ◌*◌, ◌/◌, ◌≤◌, ◌<◌, ◌≡◌, refl, List, [], ◌∷◌, leb, length, take}
+use Rattle.std.specs.Prelude.{ℕ, ◌+◌, ◌*◌, ◌/◌, ◌≤◌, ◌<◌, ◌≡◌, refl, Option, Some, None, Result, Ok, Err, List, [], ◌∷◌, leb, length, take}
 use Rattle.std.proofs.Common.{arith}
 use borrow.Author.Tests.{le-leb, lt-leb}
 use Rattle.std.proofs.lemmas.List.Edits.{sets}
 use Rattle.wire.specs.Choose.{choose}
 use Rattle.text_digits.specs.Digits.{digit_of}
-use Rattle.text_digits.specs.declared.Digit.{Digit}
-use Rattle.text_digits.specs.declared.Digit.TheVariants.{Value, Other}
-use Rattle.text_hex.specs.declared.Frame.{Frame}
-use Rattle.text_hex.specs.declared.Frame.TheVariants.{Bytes, Long, Hex}
+use Rattle.text_hex.specs.declared.FrameError.{FrameError}
+use Rattle.text_hex.specs.declared.FrameError.TheVariants.{TooLong, NotHex}
 
 pub data Decoded : Type 0 where
   Decodes : List ℕ → Decoded
   Fails : Decoded
 
 -- a byte's two digits in front of the rest
-abbrev pub joined : Digit → Digit → Decoded → Decoded
-joined (Value h) (Value l) (Decodes bs) = Decodes ((16 * h + l) ∷ bs)
-joined (Value h) (Value l) Fails = Fails
-joined (Value h) Other d = Fails
-joined Other l d = Fails
+abbrev pub joined : Option ℕ → Option ℕ → Decoded → Decoded
+joined (Some h) (Some l) (Decodes bs) = Decodes ((16 * h + l) ∷ bs)
+joined (Some h) (Some l) Fails = Fails
+joined (Some h) None d = Fails
+joined None l d = Fails
 
 -- Rule D4: two digits a byte; an odd count or a character that is no digit fails
 unfoldable pub decoded : List ℕ → Decoded
@@ -28,20 +26,20 @@ decoded (c ∷ []) = Fails
 decoded (c ∷ d ∷ cs) = joined (digit_of c) (digit_of d) (decoded cs)
 
 -- what is joined to bytes was two digits and bytes
-pub record Joins (x y : Digit) (r : Decoded) (bs : List ℕ) : Type 0 where
+pub record Joins (x y : Option ℕ) (r : Decoded) (bs : List ℕ) : Type 0 where
   pub high : ℕ
   pub low : ℕ
   pub rest : List ℕ
-  pub first : x ≡ Value high
-  pub second : y ≡ Value low
+  pub first : x ≡ Some high
+  pub second : y ≡ Some low
   pub behind : r ≡ Decodes rest
   pub bytes : bs ≡ (16 * high + low) ∷ rest
 
-pub joins : (x y : Digit) (r : Decoded) (bs : List ℕ) → joined x y r ≡ Decodes bs → Joins x y r bs
-joins (Value h) (Value l) (Decodes rs) bs e = record { high = h; low = l; rest = rs; first = refl; second = refl; behind = refl; bytes = cc }
-joins (Value h) (Value l) Fails bs e = let z : ◌≡◌ {A = ℕ} 0 1 = cc in absurd (omega arith)
-joins (Value h) Other r bs e = let z : ◌≡◌ {A = ℕ} 0 1 = cc in absurd (omega arith)
-joins Other y r bs e = let z : ◌≡◌ {A = ℕ} 0 1 = cc in absurd (omega arith)
+pub joins : (x y : Option ℕ) (r : Decoded) (bs : List ℕ) → joined x y r ≡ Decodes bs → Joins x y r bs
+joins (Some h) (Some l) (Decodes rs) bs e = record { high = h; low = l; rest = rs; first = refl; second = refl; behind = refl; bytes = cc }
+joins (Some h) (Some l) Fails bs e = let z : ◌≡◌ {A = ℕ} 0 1 = cc in absurd (omega arith)
+joins (Some h) None r bs e = let z : ◌≡◌ {A = ℕ} 0 1 = cc in absurd (omega arith)
+joins None y r bs e = let z : ◌≡◌ {A = ℕ} 0 1 = cc in absurd (omega arith)
 
 -- Rule D3: the most characters of a frame's line
 abbrev pub line_limit : ℕ
@@ -49,15 +47,15 @@ line_limit = 4096
 
 -- what is answered, and what the lent bytes hold
 pub record Framed : Type 0 where
-  pub answer : Frame
+  pub answer : Result ℕ FrameError
   pub out : List ℕ
 
 abbrev pub framed : List ℕ → Decoded → Framed
-framed out (Decodes bs) = record { answer = Bytes (length bs); out = sets out 0 bs }
-framed out Fails = record { answer = Hex; out = out }
+framed out (Decodes bs) = record { answer = Ok (length bs); out = sets out 0 bs }
+framed out Fails = record { answer = Err NotHex; out = out }
 
 abbrev pub too_long : List ℕ → Framed
-too_long out = record { answer = Long; out = out }
+too_long out = record { answer = Err TooLong; out = out }
 
 -- Rules D3 and D4: the first characters of a line: Long if there are more than the limit, than the line's buffer has, or than fit as bytes into
 -- the lent ones; then Hex if they fail; then the bytes, at the front

@@ -1,6 +1,5 @@
 -- `text_hex::frame_of` meets its contract.
-use mathlib.Core.Path.{sym}
-use native.Mathlib.Omega.{arith}
+use Rattle.std.proofs.Common.{sym, ◌∙◌}
 use Rattle.text_hex.specs.Frame.{above-limit, above-line, above-out}
 use Rattle.text_hex.specs.Faults.{Fitting, odd-frame, bad-frame, good-frame, decodable}
 use Rattle.text_hex.proofs.frame_of.Goals as goal
@@ -19,20 +18,17 @@ returns-then-chars-gt0 c =
     let fits : Fitting c.args.line.now c.args.chars c.args.out.now = record { limit = c.if-chars-gt-LINE_LIMIT.false; reach = c.if-line-chars.false; room = c.if-out-chars.false } in
     sym (odd-frame fits c.if-chars-gt0.true)
 
-pub returns-then-worst_fault-gt0 : goal.returns-then-worst_fault-gt0
-returns-then-worst_fault-gt0 c =
+pub returns-then-not-all_digits : goal.returns-then-not-all_digits
+returns-then-not-all_digits c =
     let fits : Fitting c.args.line.now c.args.chars c.args.out.now = record { limit = c.if-chars-gt-LINE_LIMIT.false; reach = c.if-line-chars.false; room = c.if-out-chars.false } in
-    sym (bad-frame fits (omega (arith, c.worst_fault.ensures)))
+    sym (bad-frame fits (sym c.all_digits.ensures ∙ c.if-not-all_digits.true))
 
 pub decode-requires : goal.decode-requires
 decode-requires c =
     let fits : Fitting c.args.line.now c.args.chars c.args.out.now = record { limit = c.if-chars-gt-LINE_LIMIT.false; reach = c.if-line-chars.false; room = c.if-out-chars.false } in
-    decodable fits c.if-chars-gt0.false (omega (arith, c.worst_fault.ensures))
+    decodable fits (sym c.all_digits.ensures ∙ c.if-not-all_digits.false)
 
 pub returns : goal.returns
 returns c =
     let fits : Fitting c.args.line.now c.args.chars c.args.out.now = record { limit = c.if-chars-gt-LINE_LIMIT.false; reach = c.if-line-chars.false; room = c.if-out-chars.false } in
-    rw c.decode.ensures
-    (sym
-    (good-frame fits c.if-chars-gt0.false
-    (omega (arith, c.worst_fault.ensures))))
+    rw c.decode.ensures (sym (good-frame fits c.if-chars-gt0.false (sym c.all_digits.ensures ∙ c.if-not-all_digits.false)))
