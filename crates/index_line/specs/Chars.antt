@@ -1,5 +1,5 @@
 -- Characters that are digits as they are written, capitals and no small letters; the numbers that they spell.
-use Rattle.std.specs.Prelude.{ℕ, zero, suc, ◌+◌, ◌-◌, ◌*◌, ◌/◌, ◌%◌, ◌^◌, ◌≤◌, ◌<◌, refl, Bool, List, [], ◌∷◌, ◌++◌, ltb, length, take, drop}
+use Rattle.std.specs.Prelude.{ℕ, zero, suc, ◌+◌, ◌-◌, ◌*◌, ◌/◌, ◌%◌, ◌^◌, ◌≤◌, ◌<◌, refl, Bool, List, [], ◌∷◌, ◌++◌, ltb, length, take, drop, Option, Some, None}
 use Rattle.std.proofs.Math.Path.{◌≡◌}
 use Rattle.std.proofs.Common.{ap, ◌∙◌, sym, append_assoc, append-nil, arith, pow-suc, mul_assoc, mul_comm, ltb-true, ltb-false}
 use Rattle.std.proofs.Math.Bool.{true, false}
@@ -7,8 +7,6 @@ use Rattle.wire.specs.Choose.{choose, both}
 use Rattle.text_digits.specs.Digits.{between, digit_of, glyph, digits, worth, reads_on}
 use Rattle.text_digits.specs.DigitLaws.{Run, Inside, Outside, runs, in-run, below-run, above-run, digital, glyph-figure, glyph-letter}
 use Rattle.text_digits.specs.DigitLaws as digit
-use Rattle.text_digits.specs.declared.Digit.{Digit}
-use Rattle.text_digits.specs.declared.Digit.TheVariants.{Value, Other}
 
 -- ---- one character
 
@@ -50,9 +48,9 @@ module _ (c : ℕ) where
   pub worth-small : worth (digit_of c) < 16
   worth-small = go (digit_of c) refl
     where
-      go : (d : Digit) → digit_of c ≡ d → worth (digit_of c) < 16
-      go (Value v) e = rw e (digital c v e).below
-      go Other e = rw e (omega arith)
+      go : (d : Option ℕ) → digit_of c ≡ d → worth (digit_of c) < 16
+      go (Some v) e = rw e (digital c v e).below
+      go None e = rw e (omega arith)
 
 pub glyph-capital : (d : ℕ) → d < 16 → capital (glyph d) ≡ true
 glyph-capital d h = go (ltb d 10) refl

@@ -11,7 +11,6 @@ ghost use Rattle.index_line.specs.Line.{number_at, entries_in, sound_entries, sp
 ghost use Rattle.index_line.specs.Chars.{capital as Chars·capital, capitals as Chars·capitals};
 
 use entry_answer::{Indexed, Put};
-use text_digits::Digit;
 use wire::Refusal;
 
 // The digits of the edition.
@@ -85,10 +84,7 @@ pub fn write_line(index: &[u64], tags: usize, line: &mut [u8]) -> Put
 fn worth_of(c: u8) -> u64
     ensures { result ≡ worth (digit_of c) }
 {
-    match text_hex::digit_of(c) {
-        Digit::Value(v) => v as u64,
-        Digit::Other => 0,
-    }
+    u64::from(text_hex::digit_of(c).unwrap_or(0))
 }
 
 // The number that k characters spell.

@@ -1,5 +1,5 @@
 -- Digits as characters: what a character is worth, and a number or bytes as digits.
-use Rattle.std.specs.Prelude.{ℕ, zero, suc, ◌+◌, ◌-◌, ◌*◌, ◌/◌, ◌%◌, Bool, false, Option, Some, None, List, [], ◌∷◌, ◌++◌, ltb, leb}
+use Rattle.std.specs.Prelude.{ℕ, zero, suc, ◌+◌, ◌-◌, ◌*◌, ◌/◌, ◌%◌, Bool, false, Option, Some, None, unwrap_or, List, [], ◌∷◌, ◌++◌, ltb, leb}
 use Rattle.wire.specs.Choose.{choose}
 
 -- ---- one character
@@ -35,8 +35,7 @@ decimal v = digits 10 (places_to 19 v) v
 
 -- digits read in a base, after a number that was read
 abbrev pub worth : Option ℕ → ℕ
-worth (Some v) = v
-worth None = 0
+worth d = unwrap_or d 0
 
 unfoldable pub reads_on : ℕ → ℕ → List ℕ → ℕ
 reads_on base n [] = n

@@ -1,14 +1,13 @@
 -- The whole dump: printing the lines of a block one after another, and block after block, prints what the whole input prints.
-use Rattle.std.specs.Prelude.{ℕ, ◌+◌, ◌≤◌, ◌≡◌, refl, List, [], ◌∷◌, ◌++◌, length, drop}
-use Rattle.std.proofs.Common.{ap, ◌∙◌, sym, append-nil, append_assoc, arith, length-append, drop_of_length-le, drop-drop}
+use Rattle.std.specs.Prelude.{ℕ, ◌+◌, ◌≤◌, ◌≡◌, List, [], ◌++◌, length, drop}
+use Rattle.std.proofs.Common.{ap, ◌∙◌, arith, length-append, drop_of_length-le}
 use Rattle.std.proofs.lemmas.List.Edits.{sets}
-use Rattle.std.proofs.Math.Seq.{drop-append-add}
 use Rattle.place.specs.Place.{put-behind}
-use Rattle.text_lines.specs.Lines.{count_up, lines_of, Taking, take_line}
-use Rattle.text_lines.specs.LineLaws.{Whole, whole, ended, begun, lines-whole, lines-ended, lines-last, Keeps, keeps-none, whole-keeps, ended-keeps}
+use Rattle.text_lines.specs.Lines.{count_up, Taking, take_line}
+use Rattle.text_lines.specs.LineLaws.{whole, ended, lines-whole, lines-ended, keeps-none, whole-keeps, ended-keeps}
 use Rattle.text_lines.specs.declared.Taken.TheVariants.{Line, Part}
 use Rattle.text_frames.specs.Text.{printed}
-use Rattle.text_frames.specs.Dump.{printed_from, number_after, dumped_from, dumped}
+use Rattle.text_frames.specs.Dump.{printed_from, number_after}
 use Rattle.text_frames.specs.Print.{frame_room, Printing, print_frame}
 use Rattle.text_frames.proofs.PrintLaws.{line-printed}
 use Rattle.text_frames.specs.DumpLaws.{Filled, Ready, after_line, prints-then}

@@ -1,10 +1,10 @@
 -- A frame's message, from what its reader answered and left in the table.
+use Rattle.std.specs.Prelude.{Result, Ok}
 use Prim.Native.Nat.{ℕ, ◌+◌, ◌-◌, ◌*◌, ◌≤◌}
 use mathlib.Core.Path.{◌≡◌, refl, ap, ◌∙◌, sym}
 use mathlib.Core.Bool.{Bool, true, false}
 use mathlib.Core.List.{List, []}
 use native.Mathlib.Omega.{arith}
-use native.Mathlib.Nat.{sub-zero}
 use lib.Dec.{leb}
 use lib.ListN.{length, take, drop, length-take}
 use Rattle.wire.specs.Limits.{record_words}
@@ -26,8 +26,7 @@ use Rattle.fault.specs.Fault.{message_fault}
 use Rattle.message_table.specs.Into.{Outcome, outcome, landed, read_into}
 use Rattle.text_hex.specs.Frame.{Framed, frame_of}
 use Rattle.text_hex.specs.Faults.{half-frame}
-use Rattle.text_hex.specs.declared.Frame.{Frame}
-use Rattle.text_hex.specs.declared.Frame.TheVariants.{Bytes}
+use Rattle.text_hex.specs.declared.FrameError.{FrameError}
 use Rattle.entry_message.specs.Messages.{read_entry, entry-open}
 use Rattle.text_frames.specs.Text.{told}
 use Rattle.text_frames.specs.Room.{AllInside, sized, told_none}
@@ -97,15 +96,15 @@ shown-put : (out : List ℕ) (at : ℕ) {m : ℕ} {c : List ℕ} (text bytes tab
     → record { next = m; out = c; bytes = bytes; table = table } ≡ shows out at text bytes table
 shown-put out at text bytes table e = ap (λ (o : Placed). record { next = o.next; out = o.buf; bytes = bytes; table = table }) e
 
-pub framed-as : {f g : Frame} {b : List ℕ} {o : Framed} → f ≡ g → record { answer = f; out = b } ≡ o → record { answer = g; out = b } ≡ o
-framed-as {f} {g} {b} e q = ap (λ (x : Frame). record { answer = x; out = b }) (sym e) ∙ q
+pub framed-as : {f g : Result ℕ FrameError} {b : List ℕ} {o : Framed} → f ≡ g → record { answer = f; out = b } ≡ o → record { answer = g; out = b } ≡ o
+framed-as {f} {g} {b} e q = ap (λ (x : Result ℕ FrameError). record { answer = x; out = b }) (sym e) ∙ q
 
 module _ (out : List ℕ) (at n : ℕ) (line : List ℕ) (chars : ℕ) (bytes table : List ℕ) (wide : at + frame_room ≤ length out) where
   pub word_room : (word : List ℕ) → length word ≤ 5 → Roomy out at (told n word [])
   word_room word h = omega (arith, told_none n word)
 
   -- a line that is no frame: a word is put
-  pub word-put : {m : ℕ} {c b : List ℕ} (f : Frame) (word : List ℕ) → length word ≤ 5 → frame_printing out at n f b table ≡ shows out at (told n word []) b table
+  pub word-put : {m : ℕ} {c b : List ℕ} (f : Result ℕ FrameError) (word : List ℕ) → length word ≤ 5 → frame_printing out at n f b table ≡ shows out at (told n word []) b table
       → record { answer = f; out = b } ≡ frame_of line chars bytes
       → ◌≡◌ {A = Placed} (record { next = m; buf = c }) (put_at out at (told n word []))
       → record { next = m; out = c; bytes = b; table = table } ≡ print_frame out at n line chars bytes table
@@ -114,20 +113,19 @@ module _ (out : List ℕ) (at n : ℕ) (line : List ℕ) (chars : ℕ) (bytes ta
       ∙ sym (print-frame out at n line chars bytes table wide f b e ∙ q)
 
   -- a frame: its message is read and printed
-  module _ {k : ℕ} {b : List ℕ} (e : record { answer = Bytes k; out = b } ≡ frame_of line chars bytes) where
+  module _ {k : ℕ} {b : List ℕ} (e : record { answer = Ok k; out = b } ≡ frame_of line chars bytes) where
     pub frame-inside : k ≤ length b
     frame-inside = (half-frame line chars bytes k b e).1
 
-    pub framable : Framable out at (take (k - 0) b)
+    pub framable : Framable out at (take k b)
     framable =
         let h = half-frame line chars bytes k b e in
-        record { room = wide; short = rw (sub-zero k) (omega (arith, length-take k b, h.0)) }
+        record { room = wide; short = omega (arith, length-take k b, h.0) }
 
-    pub frame-put : {m : ℕ} {c t : List ℕ} → Messaged out at n (take (k - 0) b) table m c t
+    pub frame-put : {m : ℕ} {c t : List ℕ} → Messaged out at n (take k b) table m c t
         → record { next = m; out = c; bytes = b; table = t } ≡ print_frame out at n line chars bytes table
     frame-put {m} {c} {t} w =
-        let x : Messaged out at n (take k b) table m c t = rw (sub-zero k) at w in
         let o = read_entry (take k b) 0 (length (take k b)) table in
-        ap (λ (u : List ℕ). record { next = m; out = c; bytes = b; table = u }) x.1
-        ∙ shown-put out at (outcome_text n (take k b) o) b o.table x.0
-        ∙ sym (print-frame out at n line chars bytes table wide (Bytes k) b e)
+        ap (λ (u : List ℕ). record { next = m; out = c; bytes = b; table = u }) w.1
+        ∙ shown-put out at (outcome_text n (take k b) o) b o.table w.0
+        ∙ sym (print-frame out at n line chars bytes table wide (Ok k) b e)

@@ -1,5 +1,5 @@
 -- What is printed of a line has room and stays inside the buffer; and where the lent parts are large enough, it is the text of the line.
-use Rattle.std.specs.Prelude.{ℕ, ◌+◌, ◌*◌, ◌≤◌, ◌<◌, ◌≡◌, Bool, take, drop}
+use Rattle.std.specs.Prelude.{ℕ, ◌+◌, ◌*◌, ◌≤◌, ◌<◌, ◌≡◌, Bool, take, drop, Result, Ok, Err}
 use Rattle.std.proofs.Math.Path.{refl, ap}
 use Rattle.std.proofs.Common.{◌∙◌, sym, arith, length-append, length-take, take_at}
 use Rattle.std.proofs.Math.Bool.{true, false}
@@ -25,8 +25,8 @@ use Rattle.entry_message.specs.Messages.{read_entry, entry-open}
 use Rattle.text_lines.specs.LineLaws.{Keeps, keeps-whole, keeps-long}
 use Rattle.text_hex.specs.Frame.{Decoded, Decodes, Fails, decoded, line_limit, framed, frame_of, above-limit, fitting}
 use Rattle.text_hex.specs.Faults.{half-frame, decoded-half}
-use Rattle.text_hex.specs.declared.Frame.{Frame}
-use Rattle.text_hex.specs.declared.Frame.TheVariants.{Bytes, Long, Hex}
+use Rattle.text_hex.specs.declared.FrameError.{FrameError}
+use Rattle.text_hex.specs.declared.FrameError.TheVariants.{TooLong, NotHex}
 use Rattle.text_frames.specs.Text.{headed, word_f, word_ok, word_no, word_hex, word_long, told, fields_text, message_text, decoded_text, printed}
 use Rattle.text_frames.specs.Room.{sized, told_none, told-two, told-four}
 use Rattle.text_frames.specs.Print.{frame_room, Printing, outcome_text, frame_printing, print_frame, print-none, print-frame}
@@ -91,11 +91,11 @@ module _ (n : ℕ) (s t : List ℕ) (short : length s ≤ 2048) where
 
 module _ (out : List ℕ) (at n : ℕ) (line : List ℕ) (chars : ℕ) (bytes table : List ℕ) where
   -- the place that is answered is inside the buffer, if the one given was
-  frame-inside : at + frame_room ≤ length out → (f : Frame) (b : List ℕ) → record { answer = f; out = b } ≡ frame_of line chars bytes
+  frame-inside : at + frame_room ≤ length out → (f : Result ℕ FrameError) (b : List ℕ) → record { answer = f; out = b } ≡ frame_of line chars bytes
       → (frame_printing out at n f b table).next ≤ length out
-  frame-inside h Long b e = omega (arith, told_none n word_long)
-  frame-inside h Hex b e = omega (arith, told_none n word_hex)
-  frame-inside h (Bytes k) b e =
+  frame-inside h (Err TooLong) b e = omega (arith, told_none n word_long)
+  frame-inside h (Err NotHex) b e = omega (arith, told_none n word_hex)
+  frame-inside h (Ok k) b e =
       omega (arith, outcome-size n (take k b) table (omega (arith, length-take k b, (half-frame line chars bytes k b e).0)))
 
   pub print-inside : at ≤ length out → (print_frame out at n line chars bytes table).next ≤ length out
@@ -117,19 +117,19 @@ module _ (out : List ℕ) (at n : ℕ) (line : List ℕ) (chars : ℕ) (bytes ta
     unfolding printed
     long-printed ks w g =
         let e = above-limit line chars bytes (omega (arith, keeps-long w (omega arith) (omega arith))) in
-        rw (lt-leb (length ks) line_limit g, print-frame out at n line chars bytes table h Long bytes (sym e)) (refl, refl)
+        rw (lt-leb (length ks) line_limit g, print-frame out at n line chars bytes table h (Err TooLong) bytes (sym e)) (refl, refl)
 
     decoded-printed : (d : Decoded) → decoded (take chars line) ≡ d → chars ≤ line_limit → Puts (decoded_text n d) (print_frame out at n line chars bytes table)
     decoded-printed Fails d g =
         let e = fitting line chars bytes g (omega arith) (omega arith) ∙ ap (framed bytes) d in
-        rw (print-frame out at n line chars bytes table h Hex bytes (sym e)) (refl, refl)
+        rw (print-frame out at n line chars bytes table h (Err NotHex) bytes (sym e)) (refl, refl)
     decoded-printed (Decodes bs) d g =
         let e = fitting line chars bytes g (omega arith) (omega arith) ∙ ap (framed bytes) d in
         let m = decoded-half (take chars line) bs d in
         let l = length-take chars line in
         let s : take (length bs) (sets bytes 0 bs) ≡ bs =
         ap (take (length bs)) (put_front bytes bs (omega arith)) ∙ take_at bs (drop (length bs) bytes) (length bs) refl in
-        rw (print-frame out at n line chars bytes table h (Bytes (length bs)) (sets bytes 0 bs) (sym e), s, outcome-text n bs table (omega arith) t)
+        rw (print-frame out at n line chars bytes table h (Ok (length bs)) (sets bytes 0 bs) (sym e), s, outcome-text n bs table (omega arith) t)
         (refl, refl)
 
     pub line-printed : (ks : List ℕ) → Keeps line chars ks → Puts (printed n ks) (print_frame out at n line chars bytes table)

@@ -1,15 +1,12 @@
 -- The whole dump: printing the lines of a block one after another, and block after block, prints what the whole input prints.
 use Rattle.std.specs.Prelude.{ℕ, ◌+◌, ◌≤◌, ◌≡◌, refl, List, [], ◌∷◌, ◌++◌, length, drop}
-use Rattle.std.proofs.Common.{ap, ◌∙◌, sym, append-nil, append_assoc, arith, length-append, drop_of_length-le, drop-drop}
+use Rattle.std.proofs.Common.{ap, ◌∙◌, sym, append-nil, append_assoc, arith, drop-drop}
 use Rattle.std.proofs.lemmas.List.Edits.{sets}
 use Rattle.std.proofs.Math.Seq.{drop-append-add}
-use Rattle.place.specs.Place.{put-behind}
-use Rattle.text_lines.specs.Lines.{count_up, lines_of, Taking, take_line}
-use Rattle.text_lines.specs.LineLaws.{Whole, whole, ended, begun, lines-whole, lines-ended, lines-last, Keeps, keeps-none, whole-keeps, ended-keeps}
-use Rattle.text_lines.specs.declared.Taken.TheVariants.{Line, Part}
+use Rattle.text_lines.specs.Lines.{count_up, lines_of}
+use Rattle.text_lines.specs.LineLaws.{Whole, begun, lines-last, Keeps}
 use Rattle.text_frames.specs.Text.{printed}
 use Rattle.text_frames.specs.Dump.{printed_from, number_after, dumped_from, dumped}
-use Rattle.text_frames.specs.Print.{frame_room, Printing, print_frame}
 
 -- ---- from a place of the input to a later one
 

@@ -1,5 +1,5 @@
 -- What printing a frame answers, and what it leaves in all that it was lent.
-use Rattle.std.specs.Prelude.{ℕ, ◌+◌, ◌≤◌, ◌<◌, ◌≡◌, List, [], ◌∷◌, ◌++◌, leb, length, take}
+use Rattle.std.specs.Prelude.{ℕ, ◌+◌, ◌≤◌, ◌<◌, ◌≡◌, List, [], ◌∷◌, ◌++◌, leb, length, take, Result, Ok, Err}
 use Rattle.std.proofs.Common.{le-leb}
 use Rattle.std.proofs.lemmas.Bool.{lt-leb}
 use Rattle.std.proofs.lemmas.List.Edits.{sets}
@@ -17,8 +17,8 @@ use Rattle.place.specs.Place.{Placed, placed}
 use Rattle.message_table.specs.Into.{Outcome}
 use Rattle.entry_message.specs.Messages.{read_entry}
 use Rattle.text_hex.specs.Frame.{frame_of}
-use Rattle.text_hex.specs.declared.Frame.{Frame}
-use Rattle.text_hex.specs.declared.Frame.TheVariants.{Bytes, Long, Hex}
+use Rattle.text_hex.specs.declared.FrameError.{FrameError}
+use Rattle.text_hex.specs.declared.FrameError.TheVariants.{TooLong, NotHex}
 use Rattle.text_frames.specs.Text.{headed, word_f, word_ok, word_no, word_hex, word_long, told, value_text, field_text, fields_text}
 use Rattle.text_frames.specs.Room.{Inside, AllInside}
 
@@ -49,11 +49,11 @@ abbrev pub shows : List ℕ → ℕ → List ℕ → List ℕ → List ℕ → P
 shows out at text bytes table = record { next = at + length text; out = sets out at text; bytes = bytes; table = table }
 
 -- a line that was read as a frame, whose bytes are the first ones: they are read as a message into the table
-abbrev pub frame_printing : List ℕ → ℕ → ℕ → Frame → List ℕ → List ℕ → Printing
-frame_printing out at n (Bytes k) bytes table =
+abbrev pub frame_printing : List ℕ → ℕ → ℕ → Result ℕ FrameError → List ℕ → List ℕ → Printing
+frame_printing out at n (Ok k) bytes table =
     let o = read_entry (take k bytes) 0 (length (take k bytes)) table in shows out at (outcome_text n (take k bytes) o) bytes o.table
-frame_printing out at n Long bytes table = shows out at (told n word_long []) bytes table
-frame_printing out at n Hex bytes table = shows out at (told n word_hex []) bytes table
+frame_printing out at n (Err TooLong) bytes table = shows out at (told n word_long []) bytes table
+frame_printing out at n (Err NotHex) bytes table = shows out at (told n word_hex []) bytes table
 
 -- where there is room for any frame; else nothing is done
 unfoldable pub print_frame : List ℕ → ℕ → ℕ → List ℕ → ℕ → List ℕ → List ℕ → Printing
@@ -67,7 +67,7 @@ module _ (out : List ℕ) (at n : ℕ) (line : List ℕ) (chars : ℕ) (bytes ta
   unfolding print_frame
   print-none h = rw (lt-leb (at + frame_room) (length out) h)
 
-  pub print-frame : at + frame_room ≤ length out → (f : Frame) (b : List ℕ) → record { answer = f; out = b } ≡ frame_of line chars bytes
+  pub print-frame : at + frame_room ≤ length out → (f : Result ℕ FrameError) (b : List ℕ) → record { answer = f; out = b } ≡ frame_of line chars bytes
       → print_frame out at n line chars bytes table ≡ frame_printing out at n f b table
   unfolding print_frame
   print-frame h f b e = rw (le-leb (at + frame_room) (length out) h, ← e)

@@ -10,7 +10,7 @@ ghost use Rattle.text_digits.specs.Digits.{decimal, hexed};
 ghost use Rattle.text_frames.specs.Text.{headed, word_f, word_ok, told, bytes_text, value_text, field_text, fields_text};
 ghost use Rattle.text_frames.specs.Print.{print_frame, Roomy, Lined, Valued, Listed, Closed, Framable, Messaged};
 
-use text_hex::Frame;
+use text_hex::FrameError;
 use wire::{Read, Record};
 
 // The room in which the text of any frame has place.
@@ -222,8 +222,8 @@ pub fn put_frame(
         return at;
     }
     match text_hex::frame_of(line, chars, bytes) {
-        Frame::Long => put_word(out, at, n, b" LONG"),
-        Frame::Hex => put_word(out, at, n, b" HEX"),
-        Frame::Bytes(k) => put_message(out, at, n, &bytes[0..k], table),
+        Ok(k) => put_message(out, at, n, &bytes[..k], table),
+        Err(FrameError::TooLong) => put_word(out, at, n, b" LONG"),
+        Err(FrameError::NotHex) => put_word(out, at, n, b" HEX"),
     }
 }

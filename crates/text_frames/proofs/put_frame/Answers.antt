@@ -1,6 +1,6 @@
 -- Without room nothing is put; else a line is a word, or its message is read and printed.
-use Rattle.std.proofs.Common.{refl, sym, arith}
-use Rattle.text_hex.specs.declared.Frame.TheVariants.{Long, Hex}
+use Rattle.std.proofs.Common.{refl, sym, ap, ◌∙◌, arith, Err, length-take-le}
+use Rattle.text_hex.specs.declared.FrameError.TheVariants.{TooLong, NotHex}
 use Rattle.text_frames.specs.Text.{word_hex, word_long}
 use Rattle.text_frames.specs.Print.{print-none}
 use Rattle.text_frames.proofs.Frames.{framed-as, word_room, word-put, frame-inside, framable, frame-put}
@@ -17,35 +17,40 @@ put_word-requires c =
     let a = c.args in
     word_room a.out.now a.at a.n a.line.now a.chars a.bytes.now a.table.now (omega arith) word_long (omega arith)
 
-pub put_word-requires-in-Hex : goal.put_word-requires-in-Hex
-put_word-requires-in-Hex c =
+pub put_word-requires-in-Err-NotHex : goal.put_word-requires-in-Err-NotHex
+put_word-requires-in-Err-NotHex c =
     let a = c.args in
     word_room a.out.now a.at a.n a.line.now a.chars a.bytes.now a.table.now (omega arith) word_hex (omega arith)
 
 pub slice_bounds-put_message-end : goal.slice_bounds-put_message-end
 slice_bounds-put_message-end c =
     let a = c.args in
-    frame-inside a.out.now a.at a.n a.line.now a.chars a.bytes.now a.table.now (omega arith) (framed-as c.in-Bytes.is c.frame_of.ensures)
+    frame-inside a.out.now a.at a.n a.line.now a.chars a.bytes.now a.table.now (omega arith) (framed-as c.in-Ok.is c.frame_of.ensures)
+
+pub slice_bounds-put_message-end-in-Ok : goal.slice_bounds-put_message-end-in-Ok
+slice_bounds-put_message-end-in-Ok c =
+    let a = c.args in
+    sym (length-take-le _ _ (frame-inside a.out.now a.at a.n a.line.now a.chars a.bytes.now a.table.now (omega arith) (framed-as c.in-Ok.is c.frame_of.ensures)))
 
 pub put_message-requires : goal.put_message-requires
 put_message-requires c =
     let a = c.args in
-    framable a.out.now a.at a.n a.line.now a.chars a.bytes.now a.table.now (omega arith) (framed-as c.in-Bytes.is c.frame_of.ensures)
+    framable a.out.now a.at a.n a.line.now a.chars a.bytes.now a.table.now (omega arith) (framed-as c.in-Ok.is c.frame_of.ensures)
 
-pub returns-in-Long : goal.returns-in-Long
-returns-in-Long c =
+pub returns-in-Err-TooLong : goal.returns-in-Err-TooLong
+returns-in-Err-TooLong c =
     let a = c.args in
-    word-put a.out.now a.at a.n a.line.now a.chars a.bytes.now a.table.now (omega arith) Long word_long (omega arith) refl
-    (framed-as c.in-Long.is c.frame_of.ensures) c.put_word.ensures
+    word-put a.out.now a.at a.n a.line.now a.chars a.bytes.now a.table.now (omega arith) (Err TooLong) word_long (omega arith) refl
+    (framed-as (c.in-Err-TooLong.is ∙ ap Err c.in-Err-TooLong.field-0-is) c.frame_of.ensures) c.put_word.ensures
 
-pub returns-in-Hex : goal.returns-in-Hex
-returns-in-Hex c =
+pub returns-in-Err-NotHex : goal.returns-in-Err-NotHex
+returns-in-Err-NotHex c =
     let a = c.args in
-    word-put a.out.now a.at a.n a.line.now a.chars a.bytes.now a.table.now (omega arith) Hex word_hex (omega arith) refl
-    (framed-as c.in-Hex.is c.frame_of.ensures) c.put_word-in-Hex.ensures
+    word-put a.out.now a.at a.n a.line.now a.chars a.bytes.now a.table.now (omega arith) (Err NotHex) word_hex (omega arith) refl
+    (framed-as (c.in-Err-NotHex.is ∙ ap Err c.in-Err-NotHex.field-0-is) c.frame_of.ensures) c.put_word-in-Err-NotHex.ensures
 
-pub returns-in-Bytes : goal.returns-in-Bytes
-returns-in-Bytes c =
+pub returns-in-Ok : goal.returns-in-Ok
+returns-in-Ok c =
     let a = c.args in
     frame-put a.out.now a.at a.n a.line.now a.chars a.bytes.now a.table.now (omega arith)
-    (framed-as c.in-Bytes.is c.frame_of.ensures) c.put_message.ensures
+    (framed-as c.in-Ok.is c.frame_of.ensures) c.put_message.ensures
