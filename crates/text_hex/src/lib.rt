@@ -59,20 +59,11 @@ fn decode(line: &[u8], out: &mut [u8])
 pub fn frame_of(line: &[u8], chars: usize, out: &mut [u8]) -> Result<usize, FrameError>
     ensures { record { answer = result; out = out.new } ≡ frame_of line.now chars out.old }
 {
-    if LINE_LIMIT < chars {
+    if LINE_LIMIT < chars || line.len() < chars || out.len() < chars / 2 {
         return Err(FrameError::TooLong);
-    }
-    if line.len() < chars {
-        return Err(FrameError::TooLong);
-    }
-    if out.len() < chars / 2 {
-        return Err(FrameError::TooLong);
-    }
-    if 0 < chars % 2 {
-        return Err(FrameError::NotHex);
     }
     let part = &line[..chars];
-    if !all_digits(part) {
+    if chars % 2 != 0 || !all_digits(part) {
         return Err(FrameError::NotHex);
     }
     decode(part, out);
