@@ -1,0 +1,7 @@
+-- Each turn takes the larger end.
+use Rattle.std.specs.Prelude.{◌≡◌}
+use Rattle.edit_live.specs.Spans.{span_in, last_end}
+use Rattle.edit_live.proofs.Payloads.last_end.Given as goal
+
+abbrev pub invariant-loop-i : goal.invariant-loop-i
+invariant-loop-i l = l.last ≡ last_end l.i (span_in l.self.size l.self.table.now l.self.skip)
