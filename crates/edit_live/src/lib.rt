@@ -3,7 +3,7 @@
 #![tactic(auto)]
 
 ghost use Rattle.std.specs.Prelude.{◌≡◌, ◌+◌, ◌-◌, ◌^◌, max, ◌≤◌, ◌<◌};
-ghost use Rattle.edit_live.specs.Spans.{end, span_in, meets_any, found, first_overlap, first_keyed, last_end, total, nearer, next_live};
+ghost use Rattle.edit_live.specs.Spans.{end, meets_any, found, first_overlap, first_keyed, last_end, total, nearer, next_live};
 ghost use Rattle.edit_live.specs.Gaps.{narrowed, gap_end, Clear, Gap};
 
 use wire::NO_KEY;
@@ -57,9 +57,11 @@ pub struct Payloads<'a> {
 }
 
 impl<'a> Payloads<'a> {
+    ghost use Rattle.edit_live.specs.Payloads.{spans};
+
     // The bytes of record i. They are tested with no sum, which could wrap.
     pub fn span_at(&self, i: usize) -> Span
-        ensures { result ≡ span_in self.now.size self.now.table.now self.now.skip i }
+        ensures { result ≡ spans self.now i }
     {
         if i == self.skip {
             return Span { start: 0, len: 0 };
@@ -85,7 +87,7 @@ impl<'a> Payloads<'a> {
 
     // The place after the last payload.
     pub fn last_end(&self) -> usize
-        ensures { result ≡ last_end self.now.count (span_in self.now.size self.now.table.now self.now.skip) }
+        ensures { result ≡ last_end self.now.count (spans self.now) }
     {
         let mut last: usize = 0;
         for i in 0..self.count {
@@ -96,7 +98,7 @@ impl<'a> Payloads<'a> {
 
     // How many bytes of the room the payloads leave, wherever these lie; at least none.
     pub fn spare(&self) -> usize
-        ensures { result ≡ self.now.size - total self.now.count (span_in self.now.size self.now.table.now self.now.skip) }
+        ensures { result ≡ self.now.size - total self.now.count (spans self.now) }
     {
         let mut left = self.size;
         for i in 0..self.count {
@@ -108,7 +110,7 @@ impl<'a> Payloads<'a> {
     // The index of the payload with the least start from a place on. Where there is none it is the count, and not None: packing then seeks its fence from
     // there on.
     pub fn next_live(&self, from: usize) -> usize
-        ensures { result ≡ next_live self.now.size self.now.count (span_in self.now.size self.now.table.now self.now.skip) from }
+        ensures { result ≡ next_live self.now.size self.now.count (spans self.now) from }
     {
         let mut next = self.count;
         let mut low = self.size;
@@ -125,7 +127,7 @@ impl<'a> Payloads<'a> {
     // Bytes among the first payloads, so many of them: where the gap that they lie in ends, or 0 if one of the payloads overlaps them.
     fn gap_end(&self, first: usize, a: Span) -> usize
         requires { end a < 2 ^ 64 }
-        ensures { result ≡ gap_end self.now.size first (span_in self.now.size self.now.table.now self.now.skip) a }
+        ensures { result ≡ gap_end self.now.size first (spans self.now) a }
     {
         let mut high = self.size;
         for i in 0..first {
@@ -136,9 +138,8 @@ impl<'a> Payloads<'a> {
 
     // The same of bytes where no payload lies between `low` and `high`: only those that lie elsewhere are compared with each payload.
     fn gap_of(&self, first: usize, a: Span, low: usize, high: usize) -> usize
-        requires { (0 < a.len) × (end a ≤ self.now.size)
-            × Clear first (span_in self.now.size self.now.table.now self.now.skip) low high }
-        ensures { Gap first (span_in self.now.size self.now.table.now self.now.skip) a result }
+        requires { (0 < a.len) × (end a ≤ self.now.size) × Clear first (spans self.now) low high }
+        ensures { Gap first (spans self.now) a result }
     {
         if a.start < low || high < a.start + a.len {
             return self.gap_end(first, a);
@@ -149,8 +150,7 @@ impl<'a> Payloads<'a> {
     // The least index whose payload overlaps that of an earlier one. Payloads whose places rise with their index are seen once; one that breaks the order, or
     // goes past the gap that it lies in, is compared with all before it.
     pub fn first_overlap(&self) -> Option<usize>
-        ensures { result ≡ found self.now.count
-            (first_overlap self.now.count (span_in self.now.size self.now.table.now self.now.skip)) }
+        ensures { result ≡ found self.now.count (first_overlap self.now.count (spans self.now)) }
     {
         let mut low: usize = 0;
         let mut high = self.size;
