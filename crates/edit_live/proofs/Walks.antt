@@ -1,7 +1,6 @@
 -- The walks over a table's records: where each stands, and what a turn does.
-use Prim.Native.Nat.{ℕ, suc, ◌+◌, ◌-◌, ◌^◌, max, ◌≤◌, ◌<◌}
+use Prim.Native.Nat.{ℕ, ◌+◌, ◌^◌, ◌≤◌, ◌<◌}
 use mathlib.Core.Path.{◌≡◌, refl, ap, ◌∙◌, sym}
-use mathlib.Core.Bool.{Bool, true, false}
 use mathlib.Core.List.{List}
 use mathlib.Core.Logic.{inl, inr}
 use native.Mathlib.Omega.{arith}
@@ -10,10 +9,10 @@ use Rattle.wire.specs.Limits.{no_key}
 use Rattle.write_record.specs.Taken.{record_in}
 use Rattle.wire.specs.declared.Record.{Record}
 use Rattle.edit_live.specs.declared.Span.{Span}
-use Rattle.edit_live.specs.Spans.{end, no_span, span_in, meets_any, first_where, first_overlap, keyed_at, first_keyed, last_end, total, nearer}
+use Rattle.edit_live.specs.Spans.{end, no_span, span_in, meets_any, first_where, first_overlap, keyed_at, first_keyed}
 use Rattle.edit_live.specs.Spans.{Nearest, seek, next_live}
 use Rattle.edit_live.specs.SpanLaws.{span-inside, apart-any, keyed-not, keyed-is, first_on, first_found}
-use Rattle.edit_live.specs.Gaps.{narrowed, gap_end, Clear, Inside, Gap, inside-apart, clear_none, clear-passed, clear-skipped}
+use Rattle.edit_live.specs.Gaps.{Clear, Inside, Gap, inside-apart, clear_none, clear-passed, clear-skipped}
 
 -- no span's end wraps
 pub span_fits : (n : ℕ) (t : List ℕ) (k i : ℕ) {s : Span} → s ≡ span_in n t k i → n < 2 ^ 64 → end s < 2 ^ 64
@@ -21,35 +20,12 @@ span_fits n t k i e h = let z = ap end e in omega (arith, span-inside n t k i)
 
 -- ---- a number that each record moves
 
-module _ (f : ℕ → Span) {i : ℕ} {s : Span} (e : s ≡ f i) where
-  pub end_more : {x y : ℕ} → x ≡ last_end i f → y ≡ max x (end s) → y ≡ last_end (suc i) f
-  end_more d q = q ∙ rw (d, e)
-
-  pub less-more : (n : ℕ) {x y : ℕ} → x ≡ n - total i f → y ≡ x - s.len → y ≡ n - total (suc i) f
-  less-more n d q = let z = ap (λ (a : Span). a.len) e in omega arith
-
-  pub gap_more : (n : ℕ) (a : Span) {x y : ℕ} → x ≡ gap_end n i f a → y ≡ narrowed s a x → y ≡ gap_end n (suc i) f a
-  gap_more n a d q = q ∙ rw (d, e)
-
 -- ---- the next in order of place
 
--- the nearest so far
-pub record Seeking (n c : ℕ) (f : ℕ → Span) (from next low i : ℕ) : Type 0 where
-  pub same : record { index = next; start = low } ≡ seek n c i f from
-
-pub seek-done : {n c : ℕ} {f : ℕ → Span} {from next low i : ℕ} → Seeking n c f from next low i → i ≡ c → next ≡ next_live n c f from
+pub seek-done : (n c : ℕ) (f : ℕ → Span) (from : ℕ) {next low i : ℕ} → record { index = next; start = low } ≡ seek n c i f from → i ≡ c
+    → next ≡ next_live n c f from
 unfolding next_live
-seek-done {n} {c} {f} {from} w e = ap (λ (x : Nearest). x.index) (w.same ∙ ap (λ (x : ℕ). seek n c x f from) e)
-
-module _ {n c : ℕ} {f : ℕ → Span} {from next low i : ℕ} (w : Seeking n c f from next low i) {b : Bool} {s : Span} (e : s ≡ f i) (q : b ≡ nearer s from low) where
-  is : b ≡ nearer (f i) from (seek n c i f from).start
-  is = q ∙ ap (λ (a : Span). nearer a from low) e ∙ ap (λ (o : Nearest). nearer (f i) from o.start) w.same
-
-  pub seek-nearer : {m l : ℕ} → b ≡ true → m ≡ i → l ≡ s.start → Seeking n c f from m l (i + 1)
-  seek-nearer {m} {l} z x y = let t : nearer (f i) from (seek n c i f from).start ≡ true = sym is ∙ z in record { same = rw (add-one i, t, x, y, e) }
-
-  pub seek-on : {m l : ℕ} → b ≡ false → m ≡ next → l ≡ low → Seeking n c f from m l (i + 1)
-  seek-on {m} {l} z x y = let t : nearer (f i) from (seek n c i f from).start ≡ false = sym is ∙ z in record { same = rw (add-one i, t, x, y) w.same }
+seek-done n c f from w e = ap (λ (x : Nearest). x.index) (w ∙ ap (λ (x : ℕ). seek n c x f from) e)
 
 -- ---- overlaps
 

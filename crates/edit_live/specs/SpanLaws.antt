@@ -1,6 +1,6 @@
 -- Laws of live payloads: a record's span, spans that are apart, sums and ends, the next in order of place.
 use Prim.Native.Nat.{ℕ, zero, suc, ◌+◌, ◌-◌, ◌≤◌, ◌<◌}
-use Rattle.std.specs.Prelude.{◌≡◌, Bool, List, Option, None, Some, ◌⊎◌, eqb}
+use Rattle.std.specs.Prelude.{◌≡◌, Bool, List, None, Some, ◌⊎◌, eqb}
 use Rattle.std.proofs.Math.Path.{refl}
 use Rattle.std.proofs.Common.{ap, ◌∙◌, sym, inl, inr}
 use Rattle.std.proofs.Math.Bool.{true, false}

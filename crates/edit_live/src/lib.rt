@@ -60,13 +60,14 @@ impl<'a> Payloads<'a> {
     ghost use Rattle.edit_live.specs.Payloads.{spans};
 
     // The bytes of record i. They are tested with no sum, which could wrap.
+    // INLINE: the table is read before the test of `skip`, which lets the compiler take its length and its test out of a caller's loop.
     pub fn span_at(&self, i: usize) -> Span
         ensures { result ≡ spans self.now i }
     {
+        let r = write_record::record_at(self.table, i);
         if i == self.skip {
             return Span { start: 0, len: 0 };
         }
-        let r = write_record::record_at(self.table, i);
         if r.kind == 1 {
             if r.length == 0 {
                 return Span { start: 0, len: 0 };
