@@ -2,19 +2,18 @@
 use Prim.Native.Nat.{ℕ, zero, suc, ◌+◌, ◌-◌, ◌*◌, ◌≤◌, ◌<◌}
 use mathlib.Core.Path.{◌≡◌, refl, ap, ◌∙◌, sym}
 use mathlib.Core.Bool.{Bool, true, false}
-use mathlib.Core.List.{List, [], ◌∷◌, ◌++◌}
+use mathlib.Core.List.{List}
 use mathlib.Core.Logic.{◌⊎◌, inl, inr}
 use native.Mathlib.Omega.{arith}
 use native.Mathlib.Numerals.{add-one}
 use lib.Dec.{eqb}
-use lib.ListN.{length, take, drop, get_or, set, length-set, length-drop}
+use lib.ListN.{length, take, drop, length-set, length-drop}
 use lib.Seq.{sets, length-sets, length-take-le}
 use Rattle.std.specs.List.{copy_within}
 use Rattle.std.specs.Prelude.{None}
 use Rattle.std.proofs.lemmas.List.Edits.{sets-eq}
 use Rattle.wire.specs.Limits.{record_words}
 use Rattle.wire.specs.Table.{room}
-use Rattle.place.specs.Place.{put-behind}
 use Rattle.write_record.specs.Taken.{record_in}
 use Rattle.wire.specs.declared.Record.{Record}
 use Rattle.edit_live.specs.Spans.{found, span_in, nearer, next_live}

@@ -1,7 +1,7 @@
 -- Each turn passes a record that is not between.
 use native.Mathlib.Omega.{arith}
 use Rattle.edit_live.specs.SpanLaws.{found-there}
-use Rattle.edit_pack.proofs.Turns.{pass-start, pass-here, pass-more, pass-none}
+use Rattle.edit_pack.proofs.Turns.{pass-here, pass-more, pass-none}
 use Rattle.edit_pack.proofs.first_between.Goals as goal
 
 pub returns-then-is_nearer : goal.returns-then-is_nearer
