@@ -1,17 +1,30 @@
 // Edits of a working copy: a table whose payloads lie in one lent room. A record taken out, a payload's bytes replaced, a payload put in.
 #![tactic(auto)]
 
-ghost use Rattle.std.specs.Prelude.{◌≡◌, [], ◌∷◌, ◌+◌, ◌*◌, ◌≤◌, ◌<◌, length, take, drop};
+ghost use Rattle.std.specs.Prelude.{◌≡◌, [], ◌∷◌, ◌+◌, ◌*◌, ◌<◌, length};
 ghost use Rattle.std.proofs.lemmas.List.Edits.{sets};
 ghost use Rattle.wire.specs.Limits.{record_words};
 ghost use Rattle.wire.specs.Table.{room};
 ghost use Rattle.write_insertion.specs.Insertion.{Insertion};
 ghost use Rattle.edit.specs.Edits.{Edit, Laid, vet_told, vetted, replaceable, insertable, laid, remove_record, replace_payload, insert_payload};
 
+use edit_live::Payloads;
 use wire::{Inserted, NewRecord, RECORD_WORDS, Refusal, Weighed};
 
 // The longest room, as the cores take it.
 const LONGEST: u32 = wire::MESSAGE_LIMIT as u32;
+
+// The payloads of the first records over a room, but for that of the record at `skip`.
+fn in_room<'a>(room: &[u8], table: &'a [u64], count: usize, skip: usize) -> Payloads<'a>
+    ensures { result ≡ record { table = table.entry; count = count; skip = skip; size = length room.now } }
+{
+    Payloads {
+        table,
+        count,
+        skip,
+        size: room.len(),
+    }
+}
 
 // The tests of every edit, in their order: those of the writers, overlaps, key words. The count where none refuses.
 fn vet(room: &[u8], table: &[u64], count: usize) -> Inserted
@@ -20,12 +33,10 @@ fn vet(room: &[u8], table: &[u64], count: usize) -> Inserted
     match write_message::weigh(room, table, count, LONGEST) {
         Weighed::First(why, i) => Inserted::Refused(why, i),
         Weighed::Left(_) => {
-            let over = edit_live::first_overlap(table, count, room.len());
-            if over < count {
+            if let Some(over) = in_room(room, table, count, count).first_overlap() {
                 return Inserted::Refused(Refusal::BadRecord, over);
             }
-            let keyed = edit_live::first_keyed(table, count);
-            if keyed < count {
+            if let Some(keyed) = edit_live::first_keyed(table, count) {
                 return Inserted::Refused(Refusal::BadRecord, keyed);
             }
             Inserted::Count(count)
@@ -33,12 +44,12 @@ fn vet(room: &[u8], table: &[u64], count: usize) -> Inserted
     }
 }
 
-// New bytes in the room, behind the last payload or, where they do not fit there, behind all of them packed. Answers where they start.
+// New bytes in the room, after the last payload or, where they do not fit there, after all of them packed. Answers where they start.
 fn lay(room: &mut [u8], table: &mut [u64], count: usize, skip: usize, bytes: &[u8]) -> usize
     ensures { record { start = result; room = room.new; table = table.new }
         ≡ laid count skip room.old table.old bytes.now }
 {
-    let at = edit_live::last_end(table, count, skip, room.len());
+    let at = in_room(room, table, count, skip).last_end();
     if bytes.len() <= room.len() - at {
         place::put_part(room, at, bytes, 0, bytes.len());
         return at;
@@ -48,19 +59,7 @@ fn lay(room: &mut [u8], table: &mut [u64], count: usize, skip: usize, bytes: &[u
     to
 }
 
-// Words moved towards the front, the first of them first, so that none is lost.
-fn move_words(table: &mut [u64], from: usize, to: usize, n: usize)
-    requires { (to ≤ from) × (from + n ≤ length table.old) }
-    ensures { table.new ≡ sets table.old to (take n (drop from table.old)) }
-{
-    let mut i: usize = 0;
-    while i < n {
-        table[to + i] = table[from + i];
-        i += 1;
-    }
-}
-
-// A record of the first ones taken out; those behind it move down one. The room is not written.
+// A record of the first ones taken out; those after it move down one. The room is not written.
 pub fn remove_record(room: &[u8], table: &mut [u64], count: usize, index: usize) -> Inserted
     ensures { record { answer = result; table = table.new } ≡ remove_record room.now table.old count index }
 {
@@ -69,12 +68,7 @@ pub fn remove_record(room: &[u8], table: &mut [u64], count: usize, index: usize)
         Inserted::Count(_) => {
             if index < count {
                 let at = RECORD_WORDS * index;
-                move_words(
-                    table,
-                    at + RECORD_WORDS,
-                    at,
-                    RECORD_WORDS * (count - 1 - index),
-                );
+                table.copy_within(at + RECORD_WORDS..RECORD_WORDS * count, at);
                 return Inserted::Count(count - 1);
             }
             Inserted::Refused(Refusal::BadRecord, index)
@@ -91,7 +85,7 @@ fn vet_replaced(room: &[u8], table: &[u64], count: usize, index: usize, n: usize
         Inserted::Count(_) => {
             if index < count {
                 if write_record::record_at(table, index).kind == 1 {
-                    if n <= edit_live::spare(table, count, index, room.len()) {
+                    if n <= in_room(room, table, count, index).spare() {
                         return Inserted::Count(count);
                     }
                     return Inserted::Refused(Refusal::NoRoom, 0);
@@ -140,7 +134,7 @@ fn vet_inserted(room: &[u8], table: &[u64], count: usize, n: usize) -> Inserted
     match vet(room, table, count) {
         Inserted::Refused(why, i) => Inserted::Refused(why, i),
         Inserted::Count(_) => {
-            if n <= edit_live::spare(table, count, count, room.len()) {
+            if n <= in_room(room, table, count, count).spare() {
                 if count < table.len() / RECORD_WORDS {
                     return Inserted::Count(count);
                 }
@@ -151,7 +145,7 @@ fn vet_inserted(room: &[u8], table: &[u64], count: usize, n: usize) -> Inserted
     }
 }
 
-// A payload put in behind all of the first records whose tag is equal or lower.
+// A payload put in after all of the first records whose tag is equal or lower.
 pub fn insert_payload(
     room: &mut [u8],
     table: &mut [u64],

@@ -1,3 +1,4 @@
 pub mod Spans
 pub mod SpanLaws
 pub mod Gaps
+pub mod Payloads

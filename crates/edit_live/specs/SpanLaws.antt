@@ -1,6 +1,6 @@
 -- Laws of live payloads: a record's span, spans that are apart, sums and ends, the next in order of place.
 use Prim.Native.Nat.{ℕ, zero, suc, ◌+◌, ◌-◌, ◌≤◌, ◌<◌}
-use Rattle.std.specs.Prelude.{◌≡◌, Bool, List, ◌⊎◌, eqb}
+use Rattle.std.specs.Prelude.{◌≡◌, Bool, List, None, Some, ◌⊎◌, eqb}
 use Rattle.std.proofs.Math.Path.{refl}
 use Rattle.std.proofs.Common.{ap, ◌∙◌, sym, inl, inr}
 use Rattle.std.proofs.Math.Bool.{true, false}
@@ -13,8 +13,30 @@ use Rattle.wire.specs.Table.{room}
 use Rattle.write_record.specs.Taken.{record_in, record-none}
 use Rattle.wire.specs.declared.Record.{Record}
 use Rattle.edit_live.specs.declared.Span.{Span}
-use Rattle.edit_live.specs.Spans.{end, no_span, span_of, span_in, meets, meets_any, first_where, first_overlap, keyed_at, first_keyed, last_end, nearer}
+use Rattle.edit_live.specs.Spans.{end, no_span, span_of, span_in, meets, meets_any, first_where, found, first_overlap, keyed_at, first_keyed, last_end, nearer}
 use Rattle.edit_live.specs.Spans.{Nearest, seek, next_live}
+
+-- ---- WHAT IS ANSWERED OF AN INDEX
+
+pub found-there : (c : ℕ) {i j : ℕ} → i < c → i ≡ j → Some i ≡ found c j
+found-there c {i} {j} h e = rw (← e, lt-ltb i c h)
+
+pub found-nowhere : (c : ℕ) {j : ℕ} → c ≤ j → None ≡ found c j
+found-nowhere c {j} h = rw (le-ltb j c h)
+
+pub found-is : (c j : ℕ) {i : ℕ} → Some i ≡ found c j → (i ≡ j) × (i < c)
+found-is c j {i} = go (ltb j c) refl
+  where
+    go : (b : Bool) → ltb j c ≡ b → Some i ≡ choose b (Some j) None → (i ≡ j) × (i < c)
+    go true b e = let z : i ≡ j = cc in (z, omega (arith, z, ltb-true j c b))
+    go false b e = let z : ◌≡◌ {A = ℕ} 0 1 = cc in absurd (omega arith)
+
+pub found-none : (c j : ℕ) → None ≡ found c j → c ≤ j
+found-none c j = go (ltb j c) refl
+  where
+    go : (b : Bool) → ltb j c ≡ b → None ≡ choose b (Some j) None → c ≤ j
+    go true b e = let z : ◌≡◌ {A = ℕ} 0 1 = cc in absurd (omega arith)
+    go false b e = ltb-false j c b
 
 -- two indices are one, or not
 pub same_or_not : (i j : ℕ) → (i ≡ j) ⊎ (i ≡ j → ⊥)

@@ -1,5 +1,5 @@
 -- Live payloads of a working copy: where each lies in the room, and what is asked of all of them. Over spans by index, the first c of them.
-use Rattle.std.specs.Prelude.{ℕ, zero, suc, ◌+◌, max, Bool, true, false, List, ltb, leb, eqb}
+use Rattle.std.specs.Prelude.{ℕ, zero, suc, ◌+◌, max, Bool, true, false, List, Option, None, Some, ltb, leb, eqb}
 use Rattle.wire.specs.Choose.{choose}
 use Rattle.wire.specs.Limits.{no_key}
 use Rattle.write_record.specs.Taken.{record_in}
@@ -39,6 +39,10 @@ meets_any (suc i) f a = choose (meets_any i f a) true (meets (f i) a)
 unfoldable pub first_where : ℕ → (ℕ → Bool) → ℕ
 first_where zero p = 0
 first_where (suc j) p = choose (ltb (first_where j p) j) (first_where j p) (choose (p j) j (suc j))
+
+-- what is answered of such an index: none where it is not below c
+abbrev pub found : ℕ → ℕ → Option ℕ
+found c i = choose (ltb i c) (Some i) None
 
 -- Rule H2: the least index whose span meets that of an earlier index; c where none does
 abbrev pub first_overlap : ℕ → (ℕ → Span) → ℕ

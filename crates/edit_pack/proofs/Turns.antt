@@ -2,67 +2,36 @@
 use Prim.Native.Nat.{ℕ, zero, suc, ◌+◌, ◌-◌, ◌*◌, ◌≤◌, ◌<◌}
 use mathlib.Core.Path.{◌≡◌, refl, ap, ◌∙◌, sym}
 use mathlib.Core.Bool.{Bool, true, false}
-use mathlib.Core.List.{List, [], ◌∷◌, ◌++◌}
+use mathlib.Core.List.{List}
 use mathlib.Core.Logic.{◌⊎◌, inl, inr}
 use native.Mathlib.Omega.{arith}
 use native.Mathlib.Numerals.{add-one}
 use lib.Dec.{eqb}
-use lib.ListN.{length, take, drop, get_or, set, length-set, length-drop}
-use lib.Seq.{sets, length-sets, get_or-set_other, get_or-drop, take-suc, length-take-le}
+use lib.ListN.{length, take, drop, length-set, length-drop}
+use lib.Seq.{sets, length-sets, length-take-le}
+use Rattle.std.specs.List.{copy_within}
+use Rattle.std.specs.Prelude.{None}
+use Rattle.std.proofs.lemmas.List.Edits.{sets-eq}
 use Rattle.wire.specs.Limits.{record_words}
 use Rattle.wire.specs.Table.{room}
-use Rattle.place.specs.Place.{put-behind}
 use Rattle.write_record.specs.Taken.{record_in}
 use Rattle.wire.specs.declared.Record.{Record}
-use Rattle.edit_live.specs.Spans.{span_in, nearer, next_live}
-use Rattle.edit_live.specs.SpanLaws.{span-inside, Held, is_held, Least, Nothing, next-case}
+use Rattle.edit_live.specs.Spans.{found, span_in, nearer, next_live}
+use Rattle.edit_live.specs.SpanLaws.{found-nowhere, span-inside, Held, is_held, Least, Nothing, next-case}
 use Rattle.edit_live.specs.declared.Span.{Span}
 use Rattle.edit_pack.specs.Packing.{amended, pack_from, empty_at, cleared, cleared_of, packed}
 use Rattle.edit_pack.specs.Fence.{first_between, Fenced, First, first-is, first-yes, next-fenced, fence-on, fence-more}
 use Rattle.edit_pack.specs.Amending.{amend-span, amend-spans}
 use Rattle.edit_pack.specs.PackTable.{pack-turn, pack-stop, empty-other, empty-length, empty-row}
 
--- ---- moving down: the first i of n elements are moved
+-- ---- moving down
 
--- what stands behind a put stays
-get_d-behind : (t : List ℕ) (q : ℕ) (xs : List ℕ) (p : ℕ) → q + length xs ≤ p → get_or (sets t q xs) p 0 ≡ get_or t p 0
-get_d-behind t q [] p h = refl
-get_d-behind t q (x ∷ xs) p h = get_d-behind (set t q x) (suc q) xs p (omega arith) ∙ get_or-set_other t q p x 0 (λ e. omega arith)
-
-pub record Moving (s : List ℕ) (from to n : ℕ) (u : List ℕ) (i : ℕ) : Type 0 where
-  pub few : i ≤ n
-  pub low : to ≤ from
-  pub inside : from + n ≤ length s
-  pub same : u ≡ sets s to (take i (drop from s))
-
-pub move_start : (s : List ℕ) (from to n : ℕ) → to ≤ from → from + n ≤ length s → Moving s from to n s 0
-move_start s from to n h g = record { few = omega arith; low = h; inside = g; same = refl }
-
-module _ {s : List ℕ} {from to n : ℕ} {u : List ℕ} {i : ℕ} (w : Moving s from to n u i) where
-  pub move-length : length u ≡ length s
-  move-length = ap length w.same ∙ length-sets s to (take i (drop from s))
-
-  sized : length (take i (drop from s)) ≡ i
-  sized = length-take-le i (drop from s) (omega (arith, length-drop from s, w.few, w.inside))
-
-  pub move-more : i < n → Moving s from to n (set u (to + i) (get_or u (from + i) 0)) (i + 1)
-  move-more h =
-      let xs = take i (drop from s) in
-      let x = get_or s (from + i) 0 in
-      let a : get_or u (from + i) 0 ≡ x = ap (λ (l : List ℕ). get_or l (from + i) 0) w.same ∙ get_d-behind s to xs (from + i) (omega (arith, sized, w.low)) in
-      let b : take (suc i) (drop from s) ≡ xs ++ (x ∷ []) =
-      take-suc (drop from s) i 0 (omega (arith, length-drop from s, w.inside)) ∙ ap (λ (y : ℕ). xs ++ (y ∷ [])) (get_or-drop from s i 0) in
-      let e : set (sets s to xs) (to + length xs) x ≡ sets s to (xs ++ (x ∷ [])) = put-behind s to xs (x ∷ []) in
-      let d : to + length xs ≡ to + i = ap (λ (y : ℕ). to + y) sized in
-      record {
-        few = omega arith;
-        low = w.low;
-        inside = w.inside;
-        same = rw (a, add-one i, b, w.same) (rw d at e);
-      }
-
-  pub move-done : n ≤ i → u ≡ sets s to (take n (drop from s))
-  move-done h = let e : i ≡ n = omega (arith, w.few) in w.same ∙ ap (λ (y : ℕ). sets s to (take y (drop from s))) e
+-- std's `copy_within` of n elements to a place before them, as a put
+pub moved-down : (s : List ℕ) (from end to n : ℕ) → end ≡ from + n → to ≤ from → end ≤ length s → copy_within s from end to ≡ sets s to (take n (drop from s))
+moved-down s from end to n d h g =
+    let k : end - from ≡ n = omega arith in
+    let e : length (take n (drop from s)) ≡ n = length-take-le n (drop from s) (omega (arith, length-drop from s)) in
+    rw k (sym (sets-eq (take n (drop from s)) s to (omega (arith, e)) ∙ rw e))
 
 -- ---- the next by index between two places: no record from `at` up to i is
 
@@ -75,6 +44,9 @@ pass-start f c from fence at = record { same = refl }
 module _ {f : ℕ → Span} {c from fence at i : ℕ} (w : Passing f c from fence at i) where
   pub pass-done : c ≤ i → i ≡ first_between (c - at) f from fence at
   pass-done h = let e : c - i ≡ 0 = omega arith in sym (w.same ∙ rw e)
+
+  pub pass-none : c ≤ i → None ≡ found c (first_between (c - at) f from fence at)
+  pass-none h = found-nowhere c (omega (arith, pass-done h))
 
   module _ (h : i < c) {s : Span} (d : s ≡ f i) {b : Bool} (q : b ≡ nearer s from fence) where
     one : c - i ≡ suc (c - (i + 1))
@@ -101,13 +73,6 @@ module _ (t : List ℕ) (k i : ℕ) {r : Record} (e : r ≡ record_in t i) (o : 
   pub empty-not : (r.kind ≡ 1 → ⊥) → false ≡ empty_at t k i
   empty-not h = sym (empty-other t k i o (λ z. h (ap (λ (x : Record). x.kind) e ∙ z)))
 
-pub record Clearing (c k : ℕ) (t u : List ℕ) (i : ℕ) : Type 0 where
-  pub few : i ≤ c
-  pub same : u ≡ cleared i k t
-
-pub clear-start : (c k : ℕ) (t : List ℕ) → Clearing c k t t 0
-clear-start c k t = record { few = omega arith; same = refl }
-
 pub clear-length : (i k : ℕ) (t : List ℕ) → length (cleared i k t) ≡ length t
 clear-length zero k t = refl
 clear-length (suc i) k t = go (clear-length i k t) (empty_at (cleared i k t) k i) refl
@@ -116,26 +81,9 @@ clear-length (suc i) k t = go (clear-length i k t) (empty_at (cleared i k t) k i
     go ih true b = rw b (length-set (cleared i k t) (record_words * i + 2) 0 ∙ ih)
     go ih false b = rw b ih
 
-module _ {c k : ℕ} {t u : List ℕ} {i : ℕ} (w : Clearing c k t u i) where
-  pub clear-same : length u ≡ length t
-  clear-same = ap length w.same ∙ clear-length i k t
-
-  pub clear-done : c ≤ i → u ≡ cleared c k t
-  clear-done h = let e : i ≡ c = omega (arith, w.few) in w.same ∙ ap (λ (x : ℕ). cleared x k t) e
-
-  module _ (h : i < c) {b : Bool} (e : b ≡ empty_at u k i) where
-    pub clear-row : b ≡ true → i < room u
-    clear-row z = empty-row u k i (sym e ∙ z)
-
-    pub clear-empty : b ≡ true → {v : List ℕ} → v ≡ amended u i 0 → Clearing c k t v (i + 1)
-    clear-empty z {v} d =
-        let q : empty_at (cleared i k t) k i ≡ true = ap (λ (l : List ℕ). empty_at l k i) (sym w.same) ∙ sym e ∙ z in
-        record { few = omega arith; same = d ∙ rw (add-one i, q, w.same) }
-
-    pub clear-other : b ≡ false → {v : List ℕ} → v ≡ u → Clearing c k t v (i + 1)
-    clear-other z {v} d =
-        let q : empty_at (cleared i k t) k i ≡ false = ap (λ (l : List ℕ). empty_at l k i) (sym w.same) ∙ sym e ∙ z in
-        record { few = omega arith; same = d ∙ rw (add-one i, q) w.same }
+-- one that is cleared lies in the table
+pub clear-row : (u : List ℕ) (k i : ℕ) {b : Bool} → b ≡ empty_at u k i → b ≡ true → i < room u
+clear-row u k i e z = empty-row u k i (sym e ∙ z)
 
 -- ---- packing: what is left to pack is what was to be packed
 
@@ -180,9 +128,9 @@ module _ {c k : ℕ} {s₀ t₀ s t : List ℕ} {from to next fence : ℕ} (w : 
   abbrev f : ℕ → Span
   f = span_in (length s₀) t k
 
-  found : ((next_live (length s₀) c (span_in (length s₀) t k) from ≡ c) × Nothing c (span_in (length s₀) t k) from)
+  nearest : ((next_live (length s₀) c (span_in (length s₀) t k) from ≡ c) × Nothing c (span_in (length s₀) t k) from)
       ⊎ Least c (span_in (length s₀) t k) from (next_live (length s₀) c (span_in (length s₀) t k) from)
-  found = next-case (length s₀) c (span_in (length s₀) t k) from (λ i g. span-inside (length s₀) t k i)
+  nearest = next-case (length s₀) c (span_in (length s₀) t k) from (λ i g. span-inside (length s₀) t k i)
 
   -- at the end: the room and the table are as packing leaves them, but for what is cleared
   pub turn-done : c ≤ next → {v : List ℕ} → v ≡ cleared c k t → record { total = to; room = s; table = v } ≡ packed c k s₀ t₀
@@ -194,7 +142,7 @@ module _ {c k : ℕ} {s₀ t₀ s t : List ℕ} {from to next fence : ℕ} (w : 
 
   module _ (h : next < c) {a : Span} (e : a ≡ span_in (length s₀) t k next) where
     pub least : Least c (span_in (length s₀) t k) from next
-    least = go found
+    least = go nearest
       where
         go : ((next_live (length s₀) c (span_in (length s₀) t k) from ≡ c) × Nothing c (span_in (length s₀) t k) from)
             ⊎ Least c (span_in (length s₀) t k) from (next_live (length s₀) c (span_in (length s₀) t k) from)

@@ -13,6 +13,7 @@ use Rattle.edit.proofs.vet_replaced.Goals as goal
 
 pub returns-then-n-spare : goal.returns-then-n-spare
 returns-then-n-spare c =
+    let left = rw c.in_room.ensures at c.spare.ensures in
     let fine : vetted c.args.room.now c.args.table.now c.args.count ≡ AllFine = let a = c.args in fine-told a.count _ c.vet.ensures c.in-Count.is in
     let there : at_index c.args.room.now c.args.table.now c.args.count c.args.index ≡ AllFine = let a = c.args in
     index-fine a.room.now a.table.now a.count a.index fine c.if-index-count.true in
@@ -20,10 +21,11 @@ returns-then-n-spare c =
     let a = c.args in
     told-fine a.count
     (replace-fine a.room.now a.table.now a.count a.index a.n there payload
-    (omega (arith, c.if-n-spare.true, c.spare.ensures)))
+    (omega (arith, c.if-n-spare.true, left)))
 
 pub returns-then-record_at-eq1 : goal.returns-then-record_at-eq1
 returns-then-record_at-eq1 c =
+    let left = rw c.in_room.ensures at c.spare.ensures in
     let fine : vetted c.args.room.now c.args.table.now c.args.count ≡ AllFine = let a = c.args in fine-told a.count _ c.vet.ensures c.in-Count.is in
     let there : at_index c.args.room.now c.args.table.now c.args.count c.args.index ≡ AllFine = let a = c.args in
     index-fine a.room.now a.table.now a.count a.index fine c.if-index-count.true in
@@ -31,7 +33,7 @@ returns-then-record_at-eq1 c =
     let a = c.args in
     told-first a.count NoRoom 0
     (replace-full a.room.now a.table.now a.count a.index a.n there payload
-    (omega (arith, c.if-n-spare.false, c.spare.ensures)))
+    (omega (arith, c.if-n-spare.false, left)))
 
 pub returns-then-index-count : goal.returns-then-index-count
 returns-then-index-count c =
