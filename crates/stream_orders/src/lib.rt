@@ -38,6 +38,15 @@ pub enum Wanted {
     Grade,
 }
 
+impl fmt::Display for Wanted {
+    fn fmt<W: fmt::Write>(&self, f: &mut fmt::Formatter<W>) -> fmt::Result {
+        f.write_str(match self {
+            Wanted::Edition => "edition",
+            Wanted::Grade => "grade",
+        })
+    }
+}
+
 // What the arguments so far ask for: to count, to tell the status; whether a file is named, and whether all that follow are names; whether the second
 // edition, and which least grade; and what the next one has to be.
 #[derive(Clone, Copy, Debug, PartialEq, Eq)]
