@@ -1,8 +1,8 @@
 -- Any two outcomes that a contract allows are equal: the answer, and the contents of all that was lent. Gathered here, a line for each public function
 -- of each library crate; each is proved beside its contract, in `proofs/Only.antt` of its crate, by the one general law of wire/specs/Only. The face's
 -- have their own names, those of the other crates their crate's name in front. The programs `dump`, `soundings` and `replay` have no public function.
--- `stream` is not here: its contracts say which bytes `read_block` took from its reader and `write_all` put into its writer, and that `write_out` wrote
--- the whole text where it answers no error. How much one call takes, and whether it fails, is left to the system. The exports of `capgauze_exports` are
+-- `stream` and `stream_lines` are not here: the contracts of `stream` say which bytes `read_block` took from its reader and `write_all` put into its
+-- writer. How much one call takes, and whether it fails, is left to the system. The exports of `capgauze_exports` are
 -- held to the functions of `capgauze_c`, which are here, by `proofs/Linked.antt` there.
 
 -- what all share

@@ -1,104 +1,36 @@
--- A block's lines, printed one after another: where the loop stands, and what a turn does.
-use Prim.Native.Nat.{ℕ, ◌+◌, ◌-◌, ◌≤◌, ◌<◌}
-use mathlib.Core.Path.{◌≡◌, refl, ap, ◌∙◌, sym}
-use mathlib.Core.Bool.{Bool, true, false}
-use mathlib.Core.List.{List, [], ◌∷◌, append-nil}
-use native.Mathlib.Omega.{arith}
-use lib.ListN.{length, drop}
-use Rattle.text_lines.specs.Lines.{count_up, Taking, take_line}
-use Rattle.text_lines.specs.LineLaws.{moves, Keeps, lines-last}
-use Rattle.text_lines.specs.declared.Taken.{Taken}
-use Rattle.text_lines.specs.declared.Taken.TheVariants.{Line, Part}
+-- THE TEXT OF A BLOCK, AND OF A FILE'S END: the loop of stream_lines, with what `dump` prints of a line, puts the text that the input prints.
+use Rattle.std.proofs.Common.{ℕ, ◌+◌, ◌≤◌, ◌<◌, ◌≡◌, refl, ap, ◌∙◌, List, [], ◌∷◌, append-nil, Bool, true, false, ltb, ltb-true, ltb-false, length, arith}
+use Rattle.text_lines.specs.LineLaws.{Keeps, lines-last}
 use Rattle.text_frames.specs.Print.{frame_room, Printing, print_frame}
 use Rattle.text_frames.proofs.PrintLaws.{print-inside, line-printed}
-use Rattle.text_frames.specs.DumpLaws.{Ready, Filled, fill_start}
+use Rattle.text_frames.specs.DumpLaws.{Filled, fill_start}
+use Rattle.text_frames.specs.DumpLaws as dumps
 use Rattle.text_frames.proofs.DumpLaws.{fill-line, fill-part}
-use Rattle.stream_orders.specs.Counting.{counted}
-use Rattle.dump.specs.Verdict.{verdict_of}
-use Rattle.dump.specs.Fills.{Reports, Fills, Closing, Closes}
-use Rattle.dump.specs.declared.State.{State}
-
--- an answer by its case
-pub taken_as : {x y : Taken} {l : List ℕ} {o : Taking} → x ≡ y → record { answer = x; line = l } ≡ o → record { answer = y; line = l } ≡ o
-taken_as {x} {y} {l} e q = ap (λ (t : Taken). record { answer = t; line = l }) (sym e) ∙ q
+use Rattle.stream_lines.specs.Turns.{Memory, Turns, stops, part, turn, Ends}
+use Rattle.dump.specs.Fills.{Puts, Judged, Ready, Fills, Closes}
 
 -- a printing by its text, whatever it leaves in the scratch
 as-printing : (p : Printing) {next : ℕ} {out : List ℕ} → next ≡ p.next → out ≡ p.out
     → record { next = next; out = out; bytes = p.bytes; table = p.table } ≡ p
 as-printing p e f = rw (e, f)
 
--- a line printed, and counted or not
-module _ {out : List ℕ} {used n : ℕ} {line : List ℕ} {k : ℕ} {bytes table tally : List ℕ} {counts : Bool} {next : ℕ} {out' b t : List ℕ}
-    (e : ◌≡◌ {A = Printing} (record { next = next; out = out'; bytes = b; table = t }) (print_frame out used n line k bytes table)) where
-  pub report-counted : {v : ℕ} {tally' : List ℕ} → counts ≡ true → v ≡ verdict_of line k b t → tally' ≡ counted tally v
-      → Reports out used n line k bytes table tally counts next out' tally'
-  report-counted h w q =
-      record { place = ap (λ (o : Printing). o.next) e; text = ap (λ (o : Printing). o.out) e; tallied = q ∙ rw (h, ← e) (ap (counted tally) w) }
+turns-fill : {block : List ℕ} {m₀ m m' : Memory} → Turns Puts Judged frame_room block m m' → Fills block m₀ m → Fills block m₀ m'
+turns-fill stops g = g
+turns-fill (part e l) g = record { ready = record { chars = l ∙ g.ready.chars; inside = g.ready.inside }; filled = λ ks w. fill-part (g.filled ks w) e }
+turns-fill {block} {m₀} {m} {m'} (turn {m' = t} {line = line} r e l p n rest) g =
+    let q = p.text in
+    let room : m.state.used + frame_room ≤ length m.out = omega (arith, r, g.ready.inside) in
+    let y : dumps.Ready m.line q.bytes q.table m.out m.state.used =
+    record { chars = g.ready.chars; byte_room = q.byte_room; word_room = q.word_room; inside = g.ready.inside } in
+    let o = as-printing (print_frame m.out m.state.used m.state.number line _ q.bytes q.table) q.place q.text in
+    turns-fill rest
+    (record {
+      ready = record { chars = ap length p.line ∙ l ∙ g.ready.chars; inside = p.inside };
+      filled = λ ks w. rw (p.line, p.none, p.number, n) (fill-line (g.filled ks w) y room e o);
+    })
 
-  pub report-plain : counts ≡ false → Reports out used n line k bytes table tally counts next out' tally
-  report-plain h = record { place = ap (λ (o : Printing). o.next) e; text = ap (λ (o : Printing). o.out) e; tallied = rw h }
-
--- lengths stay
-pub record Same (l₀ b₀ t₀ o₀ l b t o : List ℕ) : Type 0 where
-  pub line : length l ≡ length l₀
-  pub bytes : length b ≡ length b₀
-  pub table : length t ≡ length t₀
-  pub out : length o ≡ length o₀
-
-pub record Going (block line₀ bytes₀ table₀ out₀ : List ℕ) (s : State) (line bytes table out : List ℕ) (st : State) : Type 0 where
-  pub same : Same line₀ bytes₀ table₀ out₀ line bytes table out
-  pub ready : Ready line bytes table out st.used
-  pub filled : (ks : List ℕ) → Keeps line₀ s.chars ks
-      → Filled block out₀ s.used s.number ks (drop s.at block) line st.chars st.number st.at out st.used
-
-pub go-start : (block : List ℕ) {line bytes table out : List ℕ} (s : State) → Ready line bytes table out s.used
-    → Going block line bytes table out s line bytes table out s
-go-start block {out = out} s y =
-    record {
-      same = record { line = refl; bytes = refl; table = refl; out = refl };
-      ready = y;
-      filled = λ ks w. fill_start block s.number s.at out s.used w;
-    }
-
-module _ {block line₀ bytes₀ table₀ out₀ : List ℕ} {s : State} {line bytes table out : List ℕ} {st : State}
-    (g : Going block line₀ bytes₀ table₀ out₀ s line bytes table out st) where
-  pub go-done : Fills block line₀ out₀ s line out st
-  go-done = record { inside = g.ready.inside; filled = g.filled }
-
-  pub go-part : {k : ℕ} {line' : List ℕ} → ◌≡◌ {A = Taking} (record { answer = Part k; line = line' }) (take_line block st.at line st.chars)
-      → Fills block line₀ out₀ s line' out (record { at = length block; chars = k; number = st.number; used = st.used })
-  go-part e = record { inside = g.ready.inside; filled = λ ks w. fill-part (g.filled ks w) e }
-
-  pub go-less : {next k : ℕ} {line' : List ℕ} → ◌≡◌ {A = Taking} (record { answer = Line next k; line = line' }) (take_line block st.at line st.chars)
-      → length block - next < length block - st.at
-  go-less {next} {k} {line'} e = let m = moves block st.at line st.chars next k line' e in omega (arith, m.0, m.1)
-
-  pub go-line : {next k : ℕ} {line' bytes' table' out' tally tally' : List ℕ} {counts : Bool} {number' used' : ℕ} → frame_room ≤ length out - st.used
-      → ◌≡◌ {A = Taking} (record { answer = Line next k; line = line' }) (take_line block st.at line st.chars)
-      → Reports out st.used st.number line' k bytes table tally counts used' out' tally'
-      → number' ≡ count_up st.number
-      → Same line bytes table out line' bytes' table' out'
-      → Going block line₀ bytes₀ table₀ out₀ s line' bytes' table' out' (record { at = next; chars = 0; number = number'; used = used' })
-  go-line {next} {k} {line'} {bytes'} {table'} {out'} {number'} {used'} h e p n x =
-      let y = g.ready in
-      let i = print-inside out st.used st.number line' k bytes table y.inside in
-      let room : st.used + frame_room ≤ length out = omega (arith, y.inside) in
-      let q = as-printing (print_frame out st.used st.number line' k bytes table) p.place p.text in
-      record {
-        same = record {
-          line = x.line ∙ g.same.line;
-          bytes = x.bytes ∙ g.same.bytes;
-          table = x.table ∙ g.same.table;
-          out = x.out ∙ g.same.out;
-        };
-        ready = record {
-          chars = x.line ∙ y.chars;
-          byte_room = omega (arith, x.bytes, y.byte_room);
-          word_room = omega (arith, x.table, y.word_room);
-          inside = omega (arith, i, x.out, p.place);
-        };
-        filled = λ ks w. rw n (fill-line (g.filled ks w) y room e q);
-      }
+pub block-fills : {block : List ℕ} {m m' : Memory} → Ready m → Turns Puts Judged frame_room block m m' → Fills block m m'
+block-fills {block} {m} y t = turns-fill t (record { ready = y; filled = λ ks w. fill_start block m.state.number m.state.at m.out m.state.used w })
 
 -- ---- a file's end
 
@@ -106,29 +38,39 @@ no-chars : {line ks : List ℕ} {chars : ℕ} → Keeps line chars ks → chars 
 no-chars {ks = []} w h = refl
 no-chars {ks = k ∷ ks} w h = absurd (omega (arith, w.count))
 
-module _ {line bytes table out : List ℕ} {s : State} (g : Closing line bytes table out s.used) where
-  -- no characters are left
-  pub end_none : s.chars < 1 → Closes line out s out s
-  end_none h =
-      record {
-        inside = g.ready.inside;
+module _ {m m' : Memory} (y : Ready m) (room : m.state.used + frame_room ≤ length m.out) (e : Ends Puts Judged m m') where
+  end-none : m.state.chars < 1 → Closes m m'
+  end-none h =
+      rw (e.none h)
+      (record {
+        ready = y;
         none = omega arith;
-        closed = λ ks w. let e = no-chars w h in record { put = rw e; place = rw e (omega arith); number = rw e };
+        closed = λ ks w. let z = no-chars w h in record { put = rw z; place = rw z (omega arith); number = rw z };
+      })
+
+  end-line : 1 ≤ m.state.chars → Closes m m'
+  end-line h =
+      let p = (e.last h).0 in
+      let q = p.text in
+      record {
+        ready = record { chars = ap length p.line ∙ y.chars; inside = p.inside };
+        none = p.none;
+        closed = λ ks w.
+            let z = line-printed m.out m.state.used m.state.number m.line m.state.chars q.bytes q.table room y.chars q.byte_room q.word_room ks w in
+            let l = lines-last ks (omega (arith, w.count)) in
+            record { put = rw (l, append-nil) (q.text ∙ z.1); place = rw (l, append-nil) (q.place ∙ z.0); number = rw l p.number };
       }
 
-  -- a line is left: it is printed
-  pub end_line : {number' used' : ℕ} {out' tally tally' : List ℕ} {counts : Bool} → 1 ≤ s.chars
-      → Reports out s.used s.number line s.chars bytes table tally counts used' out' tally'
-      → number' ≡ count_up s.number
-      → length out' ≡ length out
-      → Closes line out s out' (record { at = s.at; chars = 0; number = number'; used = used' })
-  end_line {out' = out'} h p n l =
-      let y = g.ready in
-      record {
-        inside = omega (arith, print-inside out s.used s.number line s.chars bytes table y.inside, l, p.place);
-        none = refl;
-        closed = λ ks w.
-            let z = line-printed out s.used s.number line s.chars bytes table g.room y.chars y.byte_room y.word_room ks w in
-            let e = lines-last ks (omega (arith, w.count)) in
-            record { put = rw (e, append-nil) (p.text ∙ z.1); place = rw (e, append-nil) (p.place ∙ z.0); number = rw e n };
-      }
+  pub file-closes : Closes m m'
+  file-closes = go (ltb m.state.chars 1) refl
+    where
+      go : (b : Bool) → ltb m.state.chars 1 ≡ b → Closes m m'
+      go true b = end-none (ltb-true m.state.chars 1 b)
+      go false b = end-line (ltb-false m.state.chars 1 b)
+
+-- the text stays within the buffer
+pub printed-inside : (out : List ℕ) (used n : ℕ) (line : List ℕ) (k : ℕ) (bytes table : List ℕ) {next : ℕ} {out' b t : List ℕ}
+    → ◌≡◌ {A = Printing} (record { next = next; out = out'; bytes = b; table = t }) (print_frame out used n line k bytes table) → used ≤ length out
+    → next ≤ length out
+printed-inside out used n line k bytes table e h =
+    omega (arith, ap (λ (o : Printing). o.next) e, print-inside out used n line k bytes table h)

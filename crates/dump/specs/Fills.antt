@@ -1,41 +1,48 @@
 -- What printing a line, a block's lines and a file's last line leaves: the text that was put is what the input prints from there on, up to
 -- where it stands.
-use Rattle.std.specs.Prelude.{ℕ, ◌+◌, ◌≤◌, ◌≡◌, Bool, List, [], length, drop}
+use Rattle.std.specs.Prelude.{ℕ, ◌+◌, ◌≤◌, ◌≡◌, List, [], length, drop}
 use Rattle.std.proofs.lemmas.List.Edits.{sets}
-use Rattle.wire.specs.Choose.{choose}
 use Rattle.text_lines.specs.Lines.{lines_of}
 use Rattle.text_lines.specs.LineLaws.{Keeps, begun}
 use Rattle.text_frames.specs.Dump.{printed_from, number_after}
-use Rattle.text_frames.specs.Print.{frame_room, print_frame}
-use Rattle.text_frames.specs.DumpLaws.{Ready, Filled}
-use Rattle.stream_orders.specs.Counting.{counted}
+use Rattle.text_frames.specs.Print.{print_frame}
+use Rattle.text_frames.specs.DumpLaws.{Filled}
+use Rattle.stream_lines.specs.Turns.{Memory}
 use Rattle.dump.specs.Verdict.{verdict_of}
-use Rattle.dump.specs.declared.State.{State}
 
--- a line is printed as the frame is, and counted if that is asked
-pub record Reports (out : List ℕ) (used n : ℕ) (line : List ℕ) (k : ℕ) (bytes table tally : List ℕ) (counts : Bool)
-    (next : ℕ) (out' tally' : List ℕ) : Type 0 where
+-- a line is printed as the frame is, whatever the bytes and the words that it is read into were
+pub record Puts (out : List ℕ) (used n : ℕ) (line : List ℕ) (k : ℕ) (out' : List ℕ) (next : ℕ) : Type 0 where
+  pub bytes : List ℕ
+  pub table : List ℕ
+  pub byte_room : 2048 ≤ length bytes
+  pub word_room : 5120 ≤ length table
   pub place : next ≡ (print_frame out used n line k bytes table).next
   pub text : out' ≡ (print_frame out used n line k bytes table).out
-  pub tallied : let p = print_frame out used n line k bytes table in tally' ≡ choose counts (counted tally (verdict_of line k p.bytes p.table)) tally
 
-pub record Fills (block line out : List ℕ) (s : State) (line' out' : List ℕ) (r : State) : Type 0 where
-  pub inside : r.used ≤ length out'
-  pub filled : (ks : List ℕ) → Keeps line s.chars ks
-      → Filled block out s.used s.number ks (drop s.at block) line' r.chars r.number r.at out' r.used
+-- and so is what it is counted as
+pub record Judged (line : List ℕ) (k v : ℕ) : Type 0 where
+  pub bytes : List ℕ
+  pub table : List ℕ
+  pub verdict : v ≡ verdict_of line k bytes table
 
--- there is room for one more line
-pub record Closing (line bytes table out : List ℕ) (used : ℕ) : Type 0 where
-  pub ready : Ready line bytes table out used
-  pub room : used + frame_room ≤ length out
+-- where printing may begin: there is room for a line's characters, and the text is in the buffer
+pub record Ready (m : Memory) : Type 0 where
+  pub chars : length m.line ≡ 4096
+  pub inside : m.state.used ≤ length m.out
 
--- the text of the lines that are left at a file's end, the number behind them, and no characters kept
-pub record Closed (out : List ℕ) (used n : ℕ) (ks out' : List ℕ) (r : State) : Type 0 where
-  pub put : out' ≡ sets out used (printed_from n (begun ks (lines_of [])))
-  pub place : r.used ≡ used + length (printed_from n (begun ks (lines_of [])))
-  pub number : r.number ≡ number_after n (begun ks (lines_of []))
+-- what a block's lines leave
+pub record Fills (block : List ℕ) (m m' : Memory) : Type 0 where
+  pub ready : Ready m'
+  pub filled : (ks : List ℕ) → Keeps m.line m.state.chars ks
+      → Filled block m.out m.state.used m.state.number ks (drop m.state.at block) m'.line m'.state.chars m'.state.number m'.state.at m'.out m'.state.used
 
-pub record Closes (line out : List ℕ) (s : State) (out' : List ℕ) (r : State) : Type 0 where
-  pub inside : r.used ≤ length out'
-  pub none : r.chars ≡ 0
-  pub closed : (ks : List ℕ) → Keeps line s.chars ks → Closed out s.used s.number ks out' r
+-- the text of the lines that are left at a file's end, the number after them, and no characters kept
+pub record Closed (m : Memory) (ks : List ℕ) (m' : Memory) : Type 0 where
+  pub put : m'.out ≡ sets m.out m.state.used (printed_from m.state.number (begun ks (lines_of [])))
+  pub place : m'.state.used ≡ m.state.used + length (printed_from m.state.number (begun ks (lines_of [])))
+  pub number : m'.state.number ≡ number_after m.state.number (begun ks (lines_of []))
+
+pub record Closes (m m' : Memory) : Type 0 where
+  pub ready : Ready m'
+  pub none : m'.state.chars ≡ 0
+  pub closed : (ks : List ℕ) → Keeps m.line m.state.chars ks → Closed m ks m'

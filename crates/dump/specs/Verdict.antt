@@ -1,11 +1,10 @@
 -- What a line is counted as: 0 for an accepted frame, the number of its refusal, 16 for LONG and 17 for HEX.
-use Rattle.std.specs.Prelude.{ℕ, ◌≡◌, List, length, take, Result, Ok, Err}
+use Rattle.std.specs.Prelude.{ℕ, List, length, take, Result, Ok, Err}
 use Rattle.wire.specs.Numbers.{number_of}
 use Rattle.wire.specs.declared.Read.{Read}
 use Rattle.wire.specs.declared.Read.TheVariants.{Accepted, Refused}
-use Rattle.message_table.specs.Into.{Outcome}
 use Rattle.entry_message.specs.Messages.{read_entry}
-use Rattle.text_hex.specs.Frame.{Framed, frame_of}
+use Rattle.text_hex.specs.Frame.{frame_of}
 use Rattle.text_hex.specs.declared.FrameError.{FrameError}
 use Rattle.text_hex.specs.declared.FrameError.TheVariants.{TooLong, NotHex}
 
@@ -13,7 +12,7 @@ abbrev pub read_verdict : Read → ℕ
 read_verdict (Accepted e count) = 0
 read_verdict (Refused r p k f) = number_of r
 
-unfoldable pub message_verdict : List ℕ → List ℕ → ℕ
+abbrev pub message_verdict : List ℕ → List ℕ → ℕ
 message_verdict s table = read_verdict (read_entry s 0 (length s) table).answer
 
 abbrev pub frame_verdict : Result ℕ FrameError → List ℕ → List ℕ → ℕ
@@ -21,19 +20,5 @@ frame_verdict (Ok k) bytes table = message_verdict (take k bytes) table
 frame_verdict (Err TooLong) bytes table = 16
 frame_verdict (Err NotHex) bytes table = 17
 
-unfoldable pub verdict_of : List ℕ → ℕ → List ℕ → List ℕ → ℕ
+abbrev pub verdict_of : List ℕ → ℕ → List ℕ → List ℕ → ℕ
 verdict_of line chars bytes table = frame_verdict (frame_of line chars bytes).answer (frame_of line chars bytes).out table
-
--- ---- their cases
-
-module _ (s table : List ℕ) {t : List ℕ} where
-  pub message-told : {r q : Read} → r ≡ q → ◌≡◌ {A = Outcome} (record { answer = r; table = t }) (read_entry s 0 (length s) table)
-      → read_verdict q ≡ message_verdict s table
-  unfolding message_verdict
-  message-told e o = rw (← o, e)
-
-module _ (line : List ℕ) (chars : ℕ) (bytes table : List ℕ) {b : List ℕ} where
-  pub line-told : {f g : Result ℕ FrameError} → f ≡ g → ◌≡◌ {A = Framed} (record { answer = f; out = b }) (frame_of line chars bytes)
-      → frame_verdict g b table ≡ verdict_of line chars bytes table
-  unfolding verdict_of
-  line-told e o = rw (← o, e)

@@ -201,7 +201,7 @@ fn same(words: &Words, asked: usize, end: usize, ours: &Words, n: usize) -> bool
 }
 
 fn print(rt: &HostRuntime, text: &[u8]) {
-    stream::write_all(&mut rt.stdout(), text);
+    let _ = stream::write_all(&mut rt.stdout(), text);
 }
 
 // A line of the list that was answered otherwise: its number, the line, and our words.

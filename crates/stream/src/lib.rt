@@ -1,72 +1,97 @@
-// What the programs share: files read in blocks one behind the other, text written out, counts said, and how a run ended.
-// A call that a signal interrupts is made again, and a write that takes a part goes on behind it.
+// What the programs share: files read in blocks one after the other, text written out, counts said, and how a run ended.
+// A call that a signal interrupts is made again, and a write that takes a part goes on after it.
 #![tactic(auto)]
 
-ghost use Rattle.std.specs.Prelude.{◌≡◌, ◌≢◌, ◌≤◌, ◌<◌, ◌+◌, length, take, drop, map, slice_set, false, None, Some, IfSome, IfOk, IfErr, OnErr};
+ghost use Rattle.std.specs.Prelude.{◌≡◌, ◌≢◌, ◌≤◌, ◌<◌, ◌+◌, length, take, drop, map, slice_set, None, Ok, IfOk, IfErr, OnOk, OnErr};
 ghost use Rattle.std.specs.IoError.{error_kind};
 ghost use Rattle.std.specs.Io.{ReadsAtMost, WritesAtMost};
 ghost use Rattle.std.specs.Io.KnownBytes.{Keeps, Consumes, Appends, WriteAppends, IsAtEnd};
-ghost use Rattle.stream.specs.Inputs.{kind_of, place_read};
+ghost use Rattle.stream.specs.Inputs.{kind_of, IsWithin};
+ghost use Rattle.stream.specs.Stops.{status_of, IsStopFor};
 
 use std::env::{Env, FillError};
 use std::fs::{File, OpenOptions};
 use std::io::{ErrorKind, Read, Write};
 use std::os::fd::AsFd;
+use std::rt::Files;
 use std::{array, fs, io, str};
-use stream_orders::{Argument, Fault, Least, Orders, Wants};
+use stream_orders::{Argument, Fault, Orders};
 
-// What was read: bytes; a file's end; the end of the last file; a failure, which was said.
-#[derive(Clone, Copy)]
+// What a read brought: so many bytes; a file's end; the end of the last file.
+#[derive(Clone, Copy, Debug, PartialEq, Eq)]
 pub enum Got {
-    Bytes,
+    Bytes(usize),
     FileEnd,
     End,
+}
+
+// Why a program ends before all is done: something could not be opened, read or written; the arguments are refused; nobody reads the output any more. What
+// there is to say of it was said.
+#[derive(Clone, Copy, Debug, PartialEq, Eq)]
+pub enum Stop {
     Failed,
+    Refused,
+    Unread,
 }
 
-// Where reading stands: the argument whose file is read next, and what was read last.
+impl Stop {
+    // The status that the program ends with. The runtime ignores SIGPIPE, so a program has to end by itself, with the status of that signal.
+    pub fn status(self) -> u8
+        ensures { result ≡ status_of self }
+    {
+        match self {
+            Stop::Failed => 1,
+            Stop::Refused => 2,
+            Stop::Unread => 141,
+        }
+    }
+}
+
+// A text that was not written whole: how much of it was, and why no more.
 #[derive(Clone, Copy)]
-pub struct Source {
-    pub file: usize,
+pub struct Unwritten {
     pub n: usize,
-    pub got: Got,
+    pub error: io::Error,
 }
 
-// What an argument brings: nothing, an open file, the standard input, or the standard input once more, which is closed by then. A file is closed where it is
-// dropped.
+impl From<Unwritten> for Stop {
+    ghost from_gives = { λ w stop. IsStopFor (error_kind w.error) stop };
+
+    fn from(w: Unwritten) -> Stop {
+        if w.error.kind() == ErrorKind::BrokenPipe {
+            Stop::Unread
+        } else {
+            Stop::Failed
+        }
+    }
+}
+
+// What an argument brings: an open file, the standard input, or the standard input once more, which is closed by then. A file is closed where it is dropped.
 #[derive(Drop)]
 pub enum Input {
-    Nothing,
     Named(File),
     Standard,
     Closed,
 }
 
-// How much of a text was written, and where that is not all, why.
-#[derive(Clone, Copy)]
-pub struct Written {
-    pub n: usize,
-    pub error: Option<io::Error>,
-}
-
-// What to do, once all files are open; whether they are, and with which status the program ends if not.
-#[derive(Clone, Copy)]
-pub struct Start {
-    pub ready: bool,
-    pub status_then: u8,
-    pub count: bool,
-    pub status: bool,
-    pub second: bool,
-    pub least: Least,
-}
-
 // The most arguments, the program's name among them.
 pub const ARGUMENTS: usize = 4_096;
 
-// The statuses of a program that could not do all, and of one that SIGPIPE ended.
-const FAILED: u8 = 1;
+// What each argument brings, and the argument whose file is read.
+#[derive(Drop)]
+pub struct Inputs {
+    pub files: [Option<Input>; ARGUMENTS],
+    pub at: usize,
+}
 
-const NOBODY_READS: u8 = 141;
+// A program: its runtime, its name, and whether it has editions, which soundings have. Bytes that are no text go to the standard error as they are, and the
+// standard input is read in blocks: std has both for a `HostRuntime` alone.
+#[derive(Clone, Copy)]
+pub struct Program<'a> {
+    pub rt: &'a HostRuntime,
+    pub name: &'a str,
+    pub editions: bool,
+}
 
 // The file of descriptor 3, to which a status is written.
 const STATUS_FILE: &str = "/dev/fd/3";
@@ -92,7 +117,7 @@ const ENAMETOOLONG: i32 = 36;
 // ---- arguments
 
 // How many arguments there are, the program's name among them.
-fn argument_count(rt: &HostRuntime) -> usize {
+fn argument_count(rt: &impl Env) -> usize {
     let mut word = [0u8; NAME];
     for i in 0..usize::MAX {
         if let Err(FillError::NotPresent) = rt.arg(i, &mut word) {
@@ -102,19 +127,13 @@ fn argument_count(rt: &HostRuntime) -> usize {
     usize::MAX
 }
 
-fn argument_at(rt: &HostRuntime, i: usize, o: Orders) -> Argument {
+// What an argument is, after those that ask for so much. One that is longer than any option is a name, and no edition and no grade.
+fn argument_at(rt: &impl Env, i: usize, o: Orders) -> Option<Argument> {
     let mut word = [0u8; NAME];
     match rt.arg(i, &mut word) {
         Ok(n) => stream_orders::argument_of(&word[..n], o.names, o.wants),
-        Err(_) => long_argument(o.wants),
-    }
-}
-
-// An argument that is longer than any option is a name, and no edition and no grade.
-fn long_argument(wants: Wants) -> Argument {
-    match wants {
-        Wants::Nothing => Argument::File,
-        _ => Argument::Unknown,
+        Err(_) if o.wants.is_none() => Some(Argument::File),
+        Err(_) => None,
     }
 }
 
@@ -128,77 +147,48 @@ enum Failing {
     Output,
 }
 
-fn put_text(line: &mut [u8], at: usize, text: &[u8]) -> usize {
-    place::put_part(line, at, text, 0, text.len())
-}
+// A line that is said at once.
+type Line = io::Cursor<[u8; LINE]>;
 
-fn put_name(rt: &HostRuntime, line: &mut [u8], at: usize, i: usize) -> usize {
+fn put_name(rt: &impl Env, line: &mut Line, i: usize) -> io::Result<()> {
     let mut word = [0u8; LABEL];
-    let room = LABEL.saturating_sub(at);
+    let room = LABEL.saturating_sub(line.position() as usize);
     match rt.arg(i, &mut word[..room]) {
-        Ok(n) => place::put_part(line, at, &word, 0, n),
-        Err(_) => put_text(line, at, b"an argument"),
+        Ok(n) => line.write_all(&word[..n]),
+        Err(_) => line.write_all(b"an argument"),
     }
 }
 
-fn put_failing(rt: &HostRuntime, line: &mut [u8], at: usize, what: Failing) -> usize {
+fn put_failing(rt: &impl Env, line: &mut Line, what: Failing) -> io::Result<()> {
     match what {
-        Failing::Named(i) => put_name(rt, line, at, i),
-        Failing::Input => put_text(line, at, b"standard input"),
-        Failing::Output => put_text(line, at, b"standard output"),
+        Failing::Named(i) => put_name(rt, line, i),
+        Failing::Input => line.write_all(b"standard input"),
+        Failing::Output => line.write_all(b"standard output"),
     }
 }
 
-// An error's words, without the system's number at their end.
-fn put_words(line: &mut [u8], at: usize, text: &str) -> usize {
-    match text.split_once(" (os error ") {
-        Some((words, _)) => put_text(line, at, words.as_bytes()),
-        None => put_text(line, at, text.as_bytes()),
-    }
-}
-
-// The system's reason. It is written without the heap, so that none is lost where memory is short.
-fn put_reason(line: &mut [u8], at: usize, e: io::Error) -> usize {
+// The system's reason, without its number at the end. It is written without the heap, so none is lost where memory is short.
+fn put_reason(line: &mut Line, e: io::Error) -> io::Result<()> {
     let mut reason = io::Cursor::new([0u8; REASON]);
     let _ = write!(reason, "{e}");
-    let room = reason.into_inner();
-    match str::from_utf8(until_nul(&room)) {
-        Ok(text) => put_words(line, at, text),
-        Err(_) => at,
+    let text = str::from_utf8(written(&reason)).unwrap_or("");
+    match text.split_once(" (os error ") {
+        Some((words, _)) => line.write_all(words.as_bytes()),
+        None => line.write_all(text.as_bytes()),
     }
 }
 
-// The bytes before the first that is 0.
-fn until_nul(bytes: &[u8]) -> &[u8] {
-    match bytes.iter().position(|b| *b == 0) {
-        Some(n) => &bytes[..n],
-        None => bytes,
-    }
+// What was written into a cursor's room.
+fn written<const N: usize>(cursor: &io::Cursor<[u8; N]>) -> &[u8] {
+    let room = cursor.get_ref();
+    &room[..N.min(cursor.position() as usize)]
 }
 
-// Says in one line what failed, and the system's reason.
-fn say_failed(rt: &HostRuntime, program: &[u8], what: Failing, e: io::Error) {
-    let mut line = [0u8; LINE];
-    let mut n = put_text(&mut line, 0, program);
-    n = put_text(&mut line, n, b": ");
-    n = put_failing(rt, &mut line, n, what);
-    n = put_text(&mut line, n, b": ");
-    n = put_reason(&mut line, n, e);
-    n = put_text(&mut line, n, b"\n");
-    if n <= LINE {
-        say(rt, &line[..n]);
-    }
-}
-
-fn say(rt: &HostRuntime, text: &[u8]) {
-    write_all(&mut rt.stderr(), text);
-}
-
-// Writes the exit status to descriptor 3, where the arguments asked for that. What others wrote to its file is kept.
-fn tell(rt: &HostRuntime, status: bool, digit: &[u8]) {
+// Writes the exit status to descriptor 3, where the arguments ask for that. What others wrote to its file is kept.
+fn tell(rt: &impl Files, status: bool, digit: &[u8]) {
     if status {
         if let Ok(mut held) = OpenOptions::new().append(true).open(rt, STATUS_FILE) {
-            write_all(&mut held, digit);
+            let _ = write_all(&mut held, digit);
         }
     }
 }
@@ -227,29 +217,22 @@ pub fn read_block<R: Read>(reader: &mut R, block: &mut [u8]) -> io::Result<usize
     Err(io::Error::from(ErrorKind::TimedOut))
 }
 
-fn read_input(rt: &HostRuntime, input: &mut Input, block: &mut [u8]) -> io::Result<usize>
+fn read_input(rt: &HostRuntime, input: &mut Option<Input>, block: &mut [u8]) -> io::Result<usize>
     ensures inside { ReadsAtMost result block.new }
     ensures kind { kind_of input.new ≡ kind_of input.old }
 {
     match input {
-        Input::Nothing => Ok(0),
-        Input::Named(file) => read_block(file, block),
-        Input::Standard => read_block(&mut rt.stdin(), block),
-        Input::Closed => Err(io::Error::from_raw_os_error(EBADF)),
-    }
-}
-
-fn is_nothing(input: &Input) -> bool {
-    match input {
-        Input::Nothing => true,
-        _ => false,
+        None => Ok(0),
+        Some(Input::Named(file)) => read_block(file, block),
+        Some(Input::Standard) => read_block(&mut rt.stdin(), block),
+        Some(Input::Closed) => Err(io::Error::from_raw_os_error(EBADF)),
     }
 }
 
 // The first argument from one on that brings an input; as many as there are where none does.
-fn next_file(files: &[Input], from: usize) -> usize {
+fn next_file(files: &[Option<Input>], from: usize) -> usize {
     for i in from..files.len() {
-        if !is_nothing(&files[i]) {
+        if files[i].is_some() {
             return i;
         }
     }
@@ -257,71 +240,51 @@ fn next_file(files: &[Input], from: usize) -> usize {
 }
 
 // What a failure of an argument's input is called.
-fn failing_at(input: &Input, i: usize) -> Failing {
+fn failing_at(input: &Option<Input>, i: usize) -> Failing {
     match input {
-        Input::Standard | Input::Closed => Failing::Input,
+        Some(Input::Standard | Input::Closed) => Failing::Input,
         _ => Failing::Named(i),
     }
 }
 
-// Nothing is read yet.
-pub fn from_the_first() -> Source
-    ensures { result.n ≡ 0 }
-{
-    Source {
-        file: 0,
-        n: 0,
-        got: Got::Bytes,
+impl Inputs {
+    // No argument brings anything yet.
+    pub fn new() -> Inputs
+        ensures { result.at ≡ 0 }
+    {
+        Inputs {
+            files: array::from_fn(|_| None),
+            at: 0,
+        }
     }
-}
 
-// The next block: the bytes that one read of the present file brings, or that it is at its end. What the other arguments bring stays as it is. The argument
-// whose file was read brings the same kind of input as before, and nothing once the file is at its end.
-pub fn next_block(
-    rt: &HostRuntime,
-    program: &[u8],
-    files: &mut [Input],
-    block: &mut [u8],
-    s: Source,
-) -> Source
-    ensures inside { result.n ≤ length block.new }
-    ensures some { result.got ≡ Got.Bytes → 1 ≤ result.n }
-    ensures same_length { length files.new ≡ length files.old }
-    ensures before { take (place_read result) files.new ≡ take (place_read result) files.old }
-    ensures after { drop (place_read result + 1) files.new ≡ drop (place_read result + 1) files.old }
-    ensures kinds { result.got ≢ Got.FileEnd → map kind_of files.new ≡ map kind_of files.old }
-    ensures gone { result.got ≡ Got.FileEnd → files.new ≡ slice_set files.old (place_read result) Input.Nothing }
-{
-    let i = next_file(files, s.file);
-    if files.len() <= i {
-        return Source {
-            file: i,
-            n: 0,
-            got: Got::End,
-        };
-    }
-    match read_input(rt, &mut files[i], block) {
-        Err(e) => {
-            say_failed(rt, program, failing_at(&files[i], i), e);
-            Source {
-                file: i,
-                n: 0,
-                got: Got::Failed,
-            }
+    // The next block: the bytes that one read of the present file brings, or that it is at its end. What the other arguments bring stays as it is. The argument
+    // whose file was read brings the same kind of input as before, and nothing once the file is at its end.
+    pub fn next_block(&mut self, program: &Program, block: &mut [u8]) -> Result<Got, Stop>
+        ensures inside { IfOk result (IsWithin (length block.new)) }
+        ensures failed { IfErr result (λ stop. stop ≡ Stop.Failed) }
+        ensures same_length { length self.new.files ≡ length self.old.files }
+        ensures before { take self.new.at self.new.files ≡ take self.new.at self.old.files }
+        ensures after { drop (self.new.at + 1) self.new.files ≡ drop (self.new.at + 1) self.old.files }
+        ensures kinds { result ≢ Ok Got.FileEnd → map kind_of self.new.files ≡ map kind_of self.old.files }
+        ensures gone { result ≡ Ok Got.FileEnd → self.new.files ≡ slice_set self.old.files self.new.at None }
+    {
+        let i = next_file(&self.files, self.at);
+        self.at = i;
+        if ARGUMENTS <= i {
+            return Ok(Got::End);
         }
-        Ok(0) => {
-            files[i] = Input::Nothing;
-            Source {
-                file: i + 1,
-                n: 0,
-                got: Got::FileEnd,
+        match read_input(program.rt, &mut self.files[i], block) {
+            Err(e) => {
+                program.say_failed(failing_at(&self.files[i], i), e);
+                Err(Stop::Failed)
             }
+            Ok(0) => {
+                self.files[i] = None;
+                Ok(Got::FileEnd)
+            }
+            Ok(n) => Ok(Got::Bytes(n)),
         }
-        Ok(n) => Source {
-            file: i,
-            n,
-            got: Got::Bytes,
-        },
     }
 }
 
@@ -346,156 +309,33 @@ fn write_some<W: Write>(writer: &mut W, text: &[u8]) -> io::Result<usize>
     Err(io::Error::from(ErrorKind::TimedOut))
 }
 
-fn stopped(n: usize, e: io::Error) -> Written
-    ensures { result ≡ record { n = n; error = Some e } }
-{
-    Written { n, error: Some(e) }
-}
-
 // Writes a text, as much of it as the writer takes.
-pub fn write_all<W: Write>(writer: &mut W, text: &[u8]) -> Written
-    ensures part { result.n ≤ length text.now }
-    ensures bytes { Appends (W.contents writer.old) (W.contents writer.new) (take result.n text.now) }
-    ensures whole { result.error ≡ None → result.n ≡ length text.now }
-    ensures again { IfSome result.error (λ e. error_kind e ≢ ErrorKind.Interrupted) }
+pub fn write_all<W: Write>(writer: &mut W, text: &[u8]) -> Result<(), Unwritten>
+    ensures whole { OnOk result (Appends (W.contents writer.old) (W.contents writer.new) text.now) }
+    ensures part { IfErr result (λ w. w.n ≤ length text.now) }
+    ensures bytes { IfErr result (λ w. Appends (W.contents writer.old) (W.contents writer.new) (take w.n text.now)) }
+    ensures again { IfErr result (λ w. error_kind w.error ≢ ErrorKind.Interrupted) }
 {
     let mut at = 0;
     while at < text.len() {
-        let rest = &text[at..];
-        match write_some(writer, rest) {
-            Ok(0) => return stopped(at, io::Error::from(ErrorKind::WriteZero)),
+        match write_some(writer, &text[at..]) {
+            Ok(0) => {
+                return Err(Unwritten {
+                    n: at,
+                    error: io::Error::from(ErrorKind::WriteZero),
+                });
+            }
             Ok(n) => at += n,
-            Err(e) => return stopped(at, e),
+            Err(error) => return Err(Unwritten { n: at, error }),
         }
     }
-    Written { n: at, error: None }
-}
-
-// Writes a text to the standard output. A failure is said, but for a pipe that nobody reads any more.
-pub fn write_out(rt: &HostRuntime, program: &[u8], text: &[u8]) -> Written
-    ensures part { result.n ≤ length text.now }
-    ensures whole { result.error ≡ None → result.n ≡ length text.now }
-{
-    let written = write_all(&mut rt.stdout(), text);
-    if let Some(e) = written.error {
-        if e.kind() != ErrorKind::BrokenPipe {
-            say_failed(rt, program, Failing::Output, e);
-        }
-    }
-    written
-}
-
-// The status that a program ends with after a write: 0 where all was written, that of SIGPIPE where nobody reads the output any more, else 1.
-// The runtime ignores that signal, so a program has to end by itself.
-pub fn status_of(w: Written) -> u8
-    ensures whole { w.error ≡ None → result ≡ 0 }
-    ensures failed { result ≡ 0 → w.error ≡ None }
-    ensures unread { IfSome w.error (λ e. error_kind e ≡ ErrorKind.BrokenPipe → result ≡ 141) }
-{
-    match w.error {
-        None => 0,
-        Some(e) => if e.kind() == ErrorKind::BrokenPipe {
-            NOBODY_READS
-        } else {
-            FAILED
-        },
-    }
+    Ok(())
 }
 
 // ---- a run
 
-// What each argument brings: nothing yet.
-pub fn no_files() -> [Input; ARGUMENTS]
-    ensures { 4096 ≡ length result }
-{
-    array::from_fn(|_| Input::Nothing)
-}
-
-fn not_ready(status_then: u8) -> Start
-    ensures waits { result.ready ≡ false }
-    ensures status { result.status_then ≡ status_then }
-{
-    Start {
-        ready: false,
-        status_then,
-        count: false,
-        status: false,
-        second: false,
-        least: Least::Unsaid,
-    }
-}
-
-// Ends what is said of arguments that are refused: how the program is called, and the status.
-fn refuse(rt: &HostRuntime, program: &[u8], editions: bool, status: bool) -> Start
-    ensures waits { result.ready ≡ false }
-    ensures status { result.status_then ≡ 2 }
-{
-    say(rt, b"\nusage: ");
-    say(rt, program);
-    say(rt, b" [--count]");
-    if editions {
-        say(rt, b" [--edition 1|2] [--least canonical|extensions|any]");
-    }
-    say(rt, b" [FILE..]\n");
-    tell(rt, status, b"2");
-    not_ready(2)
-}
-
-// Says what there is not.
-fn say_none(rt: &HostRuntime, wants: Wants) {
-    match wants {
-        Wants::Nothing => say(rt, b": there is no option "),
-        Wants::Edition => say(rt, b": there is no edition "),
-        Wants::Grade => say(rt, b": there is no grade "),
-    }
-}
-
-fn refuse_word(rt: &HostRuntime, program: &[u8], editions: bool, i: usize, o: Orders) -> Start
-    ensures waits { result.ready ≡ false }
-    ensures status { result.status_then ≡ 2 }
-{
-    let mut word = [0u8; NAME];
-    say(rt, program);
-    say_none(rt, o.wants);
-    if let Ok(n) = rt.arg(i, &mut word) {
-        say(rt, &word[..n]);
-    }
-    refuse(rt, program, editions, o.status)
-}
-
-// Says what is wrong with the arguments together.
-fn say_fault(rt: &HostRuntime, fault: Fault) {
-    match fault {
-        Fault::Nothing => {}
-        Fault::NoEdition => say(rt, b": behind --edition there has to be 1 or 2"),
-        Fault::NoGrade => say(
-            rt,
-            b": behind --least there has to be canonical, extensions or any",
-        ),
-        Fault::LeastAlone => say(rt, b": --least is for --edition 2"),
-    }
-}
-
-fn refuse_all(rt: &HostRuntime, program: &[u8], editions: bool, fault: Fault, status: bool) -> Start
-    ensures waits { result.ready ≡ false }
-    ensures status { result.status_then ≡ 2 }
-{
-    say(rt, program);
-    say_fault(rt, fault);
-    refuse(rt, program, editions, status)
-}
-
-fn refuse_number(rt: &HostRuntime, program: &[u8]) -> Start
-    ensures waits { result.ready ≡ false }
-    ensures status { result.status_then ≡ 1 }
-{
-    say(rt, program);
-    say(rt, b": there are too many arguments\n");
-    not_ready(1)
-}
-
 // std opens a file by a name that is text.
-fn open_file(rt: &HostRuntime, name: &[u8]) -> io::Result<File> {
+fn open_file(rt: &impl Files<File = File>, name: &[u8]) -> io::Result<File> {
     match str::from_utf8(name) {
         Ok(path) => File::open(rt, path),
         Err(_) => Err(io::Error::new(
@@ -505,7 +345,7 @@ fn open_file(rt: &HostRuntime, name: &[u8]) -> io::Result<File> {
     }
 }
 
-fn open_named(rt: &HostRuntime, i: usize) -> io::Result<File> {
+fn open_named(rt: &(impl Env + Files<File = File>), i: usize) -> io::Result<File> {
     let mut word = [0u8; NAME];
     match rt.arg(i, &mut word) {
         Ok(n) => open_file(rt, &word[..n]),
@@ -514,116 +354,164 @@ fn open_named(rt: &HostRuntime, i: usize) -> io::Result<File> {
 }
 
 // What an argument brings; its file is opened. The standard input is read once: where an argument before this one named it, it is closed.
-fn input_for(rt: &HostRuntime, i: usize, a: Argument, named_before: bool) -> io::Result<Input> {
+fn input_for(
+    rt: &(impl Env + Files<File = File>),
+    i: usize,
+    a: Argument,
+    named_before: bool,
+) -> io::Result<Option<Input>> {
     match a {
-        Argument::File => Ok(Input::Named(open_named(rt, i)?)),
-        Argument::Input if named_before => Ok(Input::Closed),
-        Argument::Input => Ok(Input::Standard),
-        _ => Ok(Input::Nothing),
+        Argument::File => Ok(Some(Input::Named(open_named(rt, i)?))),
+        Argument::Input if named_before => Ok(Some(Input::Closed)),
+        Argument::Input => Ok(Some(Input::Standard)),
+        _ => Ok(None),
     }
 }
 
-fn is_input(a: Argument) -> bool {
-    match a {
-        Argument::Input => true,
-        _ => false,
+impl<'a> Program<'a> {
+    fn say(&self, text: &[u8]) {
+        let _ = write_all(&mut self.rt.stderr(), text);
     }
-}
 
-// Opens every file that the arguments name; false at the first that cannot be opened.
-fn open_files(rt: &HostRuntime, program: &[u8], files: &mut [Input], count: usize) -> bool {
-    let mut o = stream_orders::no_orders();
-    let mut standard = false;
-    for i in 1..count {
-        if files.len() <= i {
-            return false;
+    // Says in one line what failed, and the system's reason.
+    fn say_failed(&self, what: Failing, e: io::Error) {
+        let mut line = io::Cursor::new([0u8; LINE]);
+        let _ = self.put_failed(&mut line, what, e);
+        self.say(written(&line));
+    }
+
+    fn put_failed(&self, line: &mut Line, what: Failing, e: io::Error) -> io::Result<()> {
+        write!(line, "{}: ", self.name)?;
+        put_failing(self.rt, line, what)?;
+        line.write_all(b": ")?;
+        put_reason(line, e)?;
+        line.write_all(b"\n")
+    }
+
+    // Ends what is said of arguments that are refused: how the program is called, and the status.
+    fn refuse(&self, status: bool) -> Stop
+        ensures { result ≡ Stop.Refused }
+    {
+        let editions = if self.editions {
+            " [--edition 1|2] [--least canonical|extensions|any]"
+        } else {
+            ""
+        };
+        let _ = eprintln!(self.rt; "\nusage: {} [--count]{editions} [FILE..]", self.name);
+        tell(self.rt, status, b"2");
+        Stop::Refused
+    }
+
+    // Says what option, edition or grade there is not.
+    fn refuse_word(&self, i: usize, o: Orders) -> Stop
+        ensures { result ≡ Stop.Refused }
+    {
+        let mut word = [0u8; NAME];
+        let _ = match o.wants {
+            None => eprint!(self.rt; "{}: there is no option ", self.name),
+            Some(wanted) => eprint!(self.rt; "{}: there is no {wanted} ", self.name),
+        };
+        if let Ok(n) = self.rt.arg(i, &mut word) {
+            self.say(&word[..n]);
         }
-        let a = argument_at(rt, i, o);
-        match input_for(rt, i, a, standard) {
-            Ok(input) => files[i] = input,
-            Err(e) => {
-                say_failed(rt, program, Failing::Named(i), e);
-                return false;
+        self.refuse(o.status)
+    }
+
+    // Says what is wrong with the arguments together.
+    fn refuse_all(&self, fault: Fault, o: Orders) -> Stop
+        ensures { result ≡ Stop.Refused }
+    {
+        let _ = eprint!(self.rt; "{}: {fault}", self.name);
+        self.refuse(o.status)
+    }
+
+    // What an argument is; none where the program has no such option. Editions are for programs that print soundings.
+    fn argument_at(&self, i: usize, o: Orders) -> Option<Argument> {
+        match argument_at(self.rt, i, o) {
+            Some(Argument::Edition | Argument::Least) if !self.editions => None,
+            found => found,
+        }
+    }
+
+    // What so many arguments ask for.
+    fn read_orders(&self, count: usize) -> Result<Orders, Stop>
+        ensures { IfErr result (λ stop. stop ≡ Stop.Refused) }
+    {
+        let mut o = Orders::new();
+        for i in 1..count {
+            match self.argument_at(i, o) {
+                Some(a) => o = o.with(a),
+                None => return Err(self.refuse_word(i, o)),
             }
         }
-        standard = standard || is_input(a);
-        o = stream_orders::ordered(o, a);
-    }
-    if !o.named {
-        return use_input(files);
-    }
-    true
-}
-
-// Without a file the standard input is read, in the place of the program's name.
-fn use_input(files: &mut [Input]) -> bool {
-    if files.len() < 1 {
-        return false;
-    }
-    files[0] = Input::Standard;
-    true
-}
-
-// Whether the program has no such option; editions are for programs that print soundings.
-fn is_unknown(a: Argument, editions: bool) -> bool {
-    match a {
-        Argument::Unknown => true,
-        Argument::Edition => !editions,
-        Argument::Least => !editions,
-        _ => false,
-    }
-}
-
-fn is_good(fault: Fault) -> bool {
-    match fault {
-        Fault::Nothing => true,
-        _ => false,
-    }
-}
-
-// Opens all files, for arguments that are good.
-fn open_orders(
-    rt: &HostRuntime,
-    program: &[u8],
-    files: &mut [Input],
-    count: usize,
-    o: Orders,
-) -> Start
-    ensures same_length { length files.new ≡ length files.old }
-    ensures failed { result.ready ≡ false → 1 ≤ result.status_then }
-{
-    if files.len() < count {
-        return refuse_number(rt, program);
-    }
-    Start {
-        ready: open_files(rt, program, files, count),
-        status_then: 1,
-        count: o.count,
-        status: o.status,
-        second: o.second,
-        least: o.least,
-    }
-}
-
-// Reads the arguments, opens all files, and says why there is nothing to do where that fails.
-pub fn open_all(rt: &HostRuntime, program: &[u8], files: &mut [Input], editions: bool) -> Start
-    ensures same_length { length files.new ≡ length files.old }
-    ensures failed { result.ready ≡ false → 1 ≤ result.status_then }
-{
-    let count = argument_count(rt);
-    let mut o = stream_orders::no_orders();
-    for i in 1..count {
-        let a = argument_at(rt, i, o);
-        if is_unknown(a, editions) {
-            return refuse_word(rt, program, editions, i, o);
+        match o.check() {
+            Ok(()) => Ok(o),
+            Err(fault) => Err(self.refuse_all(fault, o)),
         }
-        o = stream_orders::ordered(o, a);
     }
-    let fault = stream_orders::fault_of(o);
-    if !is_good(fault) {
-        return refuse_all(rt, program, editions, fault, o.status);
+
+    // Opens every file that so many arguments name. Without one the standard input is read, in the place of the program's name.
+    fn open_files(&self, count: usize) -> Result<Inputs, Stop>
+        requires { count ≤ 4096 }
+        ensures { IfErr result (λ stop. stop ≡ Stop.Failed) }
+    {
+        let mut inputs = Inputs::new();
+        let mut o = Orders::new();
+        let mut standard = false;
+        for i in 1..count {
+            if let Some(a) = self.argument_at(i, o) {
+                match input_for(self.rt, i, a, standard) {
+                    Ok(input) => inputs.files[i] = input,
+                    Err(e) => {
+                        self.say_failed(Failing::Named(i), e);
+                        return Err(Stop::Failed);
+                    }
+                }
+                standard = standard || a == Argument::Input;
+                o = o.with(a);
+            }
+        }
+        if !o.named {
+            inputs.files[0] = Some(Input::Standard);
+        }
+        Ok(inputs)
     }
-    open_orders(rt, program, files, count, o)
+
+    // Reads the arguments, opens all files, and says why there is nothing to do where that fails.
+    pub fn open(&self) -> Result<(Orders, Inputs), Stop> {
+        let count = argument_count(self.rt);
+        let orders = self.read_orders(count)?;
+        if ARGUMENTS < count {
+            let _ = eprintln!(self.rt; "{}: there are too many arguments", self.name);
+            return Err(Stop::Failed);
+        }
+        Ok((orders, self.open_files(count)?))
+    }
+
+    // Writes a text to the standard output. A failure is said, but for a pipe that nobody reads any more.
+    pub fn write_out(&self, text: &[u8]) -> Result<(), Unwritten>
+        ensures { IfErr result (λ w. w.n ≤ length text.now) }
+    {
+        let written = write_all(&mut self.rt.stdout(), text);
+        if let Err(w) = written {
+            if w.error.kind() != ErrorKind::BrokenPipe {
+                self.say_failed(Failing::Output, w.error);
+            }
+        }
+        written
+    }
+
+    // Ends a run in which all was read and written: the output is settled, and the status told where the arguments ask for that.
+    pub fn finish(&self, status: bool) -> Result<(), Stop>
+        ensures { IfErr result (λ stop. stop ≡ Stop.Failed) }
+    {
+        if let Err(e) = settle_output(self.rt) {
+            self.say_failed(Failing::Output, e);
+            return Err(Stop::Failed);
+        }
+        tell(self.rt, status, b"0");
+        Ok(())
+    }
 }
 
 // The output has to be open: a closed descriptor cannot be duplicated. The duplicate is closed after the sync, since closing it could take an error away.
@@ -637,7 +525,7 @@ fn settle_output(rt: &HostRuntime) -> io::Result<()> {
 
 // What was written to a file has to be on its disk: some file systems report a full disk only then, or when the file is closed. std closes no standard stream,
 // so a file that may be opened again is synced.
-fn sync_output(rt: &HostRuntime) -> io::Result<()> {
+fn sync_output(rt: &impl Files<File = File>) -> io::Result<()> {
     if is_file_at(rt, OUTPUT_FILE) {
         if let Ok(file) = open_output(rt) {
             return sync(&file);
@@ -647,7 +535,7 @@ fn sync_output(rt: &HostRuntime) -> io::Result<()> {
 }
 
 // The file of the standard output, opened again.
-fn open_output(rt: &HostRuntime) -> io::Result<File> {
+fn open_output(rt: &impl Files<File = File>) -> io::Result<File> {
     match File::open(rt, OUTPUT_FILE) {
         Ok(file) => Ok(file),
         Err(_) => OpenOptions::new().append(true).open(rt, OUTPUT_FILE),
@@ -664,35 +552,20 @@ fn sync(file: &File) -> io::Result<()> {
 
 // Whether an error says that a call is not for such a file.
 fn is_refused(e: io::Error) -> bool {
-    match e.kind() {
-        ErrorKind::InvalidInput | ErrorKind::Unsupported | ErrorKind::ReadOnlyFilesystem => true,
-        _ => false,
-    }
+    matches!(
+        e.kind(),
+        ErrorKind::InvalidInput | ErrorKind::Unsupported | ErrorKind::ReadOnlyFilesystem
+    )
 }
 
-fn is_file_at(rt: &HostRuntime, path: &str) -> bool {
-    match fs::metadata(rt, path) {
-        Ok(found) => found.is_file(),
-        Err(_) => false,
-    }
-}
-
-// Ends a run in which all was read and written: the output is settled, and the status told. It is 1 where that failed.
-pub fn finish(rt: &HostRuntime, program: &[u8], s: Start) -> u8
-    ensures { result ≤ 1 }
-{
-    if let Err(e) = settle_output(rt) {
-        say_failed(rt, program, Failing::Output, e);
-        return 1;
-    }
-    tell(rt, s.status, b"0");
-    0
+fn is_file_at(rt: &impl Files, path: &str) -> bool {
+    fs::metadata(rt, path).is_ok_and(|found| found.is_file())
 }
 
 // ---- counting
 
 // Says how many frames were read, and how many of each verdict there were; how many verdicts there were.
-pub fn say_counts(rt: &HostRuntime, frames: usize, tally: &[usize]) -> usize
+pub fn say_counts(rt: &impl Eprint, frames: usize, tally: &[usize]) -> usize
     ensures { result ≤ length tally.now }
 {
     let _ = eprintln!(rt; "{frames} frames");
@@ -704,7 +577,7 @@ pub fn say_counts(rt: &HostRuntime, frames: usize, tally: &[usize]) -> usize
 }
 
 // A line in the words of the dump, where there is a frame; 1 if there is.
-fn say_verdict(rt: &HostRuntime, v: usize, n: usize) -> usize
+fn say_verdict(rt: &impl Eprint, v: usize, n: usize) -> usize
     ensures { result ≤ 1 }
 {
     if n < 1 {

@@ -3,12 +3,12 @@ use mathlib.Core.Path.{◌∙◌, sym}
 use Rattle.wire.specs.Only.{One}
 use Rattle.stream_orders.proofs.argument_of.Kinds as argument-of
 use Rattle.stream_orders.proofs.argument_of.Reads as argument-of-reads
-use Rattle.stream_orders.proofs.no_orders.Kinds as no-orders
-use Rattle.stream_orders.proofs.no_orders.Reads as no-orders-reads
-use Rattle.stream_orders.proofs.ordered.Kinds as ordered
-use Rattle.stream_orders.proofs.ordered.Reads as ordered-reads
-use Rattle.stream_orders.proofs.fault_of.Kinds as fault-of
-use Rattle.stream_orders.proofs.fault_of.Reads as fault-of-reads
+use Rattle.stream_orders.proofs.Orders.new.Kinds as no-orders
+use Rattle.stream_orders.proofs.Orders.new.Reads as no-orders-reads
+use Rattle.stream_orders.proofs.Orders.with.Kinds as ordered
+use Rattle.stream_orders.proofs.Orders.with.Reads as ordered-reads
+use Rattle.stream_orders.proofs.Orders.check.Kinds as fault-of
+use Rattle.stream_orders.proofs.Orders.check.Reads as fault-of-reads
 use Rattle.stream_orders.proofs.count_one.Kinds as count-one
 use Rattle.stream_orders.proofs.count_one.Reads as count-one-reads
 
