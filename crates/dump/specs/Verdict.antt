@@ -1,10 +1,11 @@
 -- What a line is counted as: 0 for an accepted frame, the number of its refusal, 16 for LONG and 17 for HEX.
-use Rattle.std.specs.Prelude.{ℕ, List, length, take, Result, Ok, Err}
+use Rattle.std.specs.Prelude.{ℕ, ◌≡◌, List, length, take, Result, Ok, Err}
 use Rattle.wire.specs.Numbers.{number_of}
 use Rattle.wire.specs.declared.Read.{Read}
 use Rattle.wire.specs.declared.Read.TheVariants.{Accepted, Refused}
+use Rattle.message_table.specs.Into.{Outcome}
 use Rattle.entry_message.specs.Messages.{read_entry}
-use Rattle.text_hex.specs.Frame.{frame_of}
+use Rattle.text_hex.specs.Frame.{Framed, frame_of}
 use Rattle.text_hex.specs.declared.FrameError.{FrameError}
 use Rattle.text_hex.specs.declared.FrameError.TheVariants.{TooLong, NotHex}
 
@@ -22,3 +23,15 @@ frame_verdict (Err NotHex) bytes table = 17
 
 abbrev pub verdict_of : List ℕ → ℕ → List ℕ → List ℕ → ℕ
 verdict_of line chars bytes table = frame_verdict (frame_of line chars bytes).answer (frame_of line chars bytes).out table
+
+-- ---- their cases
+
+module _ (s table : List ℕ) {t : List ℕ} where
+  pub message-told : {r q : Read} → r ≡ q → ◌≡◌ {A = Outcome} (record { answer = r; table = t }) (read_entry s 0 (length s) table)
+      → read_verdict q ≡ message_verdict s table
+  message-told e o = rw (← o, e)
+
+module _ (line : List ℕ) (chars : ℕ) (bytes table : List ℕ) {b : List ℕ} where
+  pub line-told : {f g : Result ℕ FrameError} → f ≡ g → ◌≡◌ {A = Framed} (record { answer = f; out = b }) (frame_of line chars bytes)
+      → frame_verdict g b table ≡ verdict_of line chars bytes table
+  line-told e o = rw (← o, e)

@@ -1,3 +1,4 @@
 pub mod Arguments
 pub mod Orders
 pub mod Counting
+pub mod Cases
