@@ -18,7 +18,7 @@ kind_of (Some (Named f)) = brings_a_file
 kind_of (Some Standard) = brings_the_standard_input
 kind_of (Some Closed) = brings_a_closed_input
 
--- a read brings a byte or more, and as many as the block has place for at most
+-- a read brings a byte or more, and as many as the block has room for at most
 abbrev pub IsWithin : ℕ → Got → Type 0
 IsWithin size (Bytes n) = (1 ≤ n) × (n ≤ size)
 IsWithin size FileEnd = ⊤

@@ -47,6 +47,17 @@ impl Stop {
     }
 }
 
+// The status of a program whose run ended so.
+pub fn status_of(done: Result<(), Stop>) -> u8
+    ensures whole { OnOk done (result ≡ 0) }
+    ensures failed { IfErr done (λ stop. result ≡ status_of stop) }
+{
+    match done {
+        Ok(()) => 0,
+        Err(stop) => stop.status(),
+    }
+}
+
 // A text that was not written whole: how much of it was, and why no more.
 #[derive(Clone, Copy)]
 pub struct Unwritten {
@@ -119,6 +130,7 @@ const ENAMETOOLONG: i32 = 36;
 // How many arguments there are, the program's name among them.
 fn argument_count(rt: &impl Env) -> usize {
     let mut word = [0u8; NAME];
+    // Every loop has an end; no run comes to this one's.
     for i in 0..usize::MAX {
         if let Err(FillError::NotPresent) = rt.arg(i, &mut word) {
             return i;
@@ -204,6 +216,7 @@ pub fn read_block<R: Read>(reader: &mut R, block: &mut [u8]) -> io::Result<usize
     ensures kept { OnErr result (Keeps (R.remaining reader.old) (R.remaining reader.new)) }
     ensures again { IfErr result (λ e. error_kind e ≢ ErrorKind.Interrupted) }
 {
+    // Every loop has an end; no run comes to this one's.
     for _ in 0..u64::MAX {
         match reader.read(block) {
             Ok(n) => return Ok(n),
@@ -296,6 +309,7 @@ fn write_some<W: Write>(writer: &mut W, text: &[u8]) -> io::Result<usize>
     ensures bytes { WriteAppends (W.contents writer.old) (W.contents writer.new) result text.now }
     ensures again { IfErr result (λ e. error_kind e ≢ ErrorKind.Interrupted) }
 {
+    // Every loop has an end; no run comes to this one's.
     for _ in 0..u64::MAX {
         match writer.write(text) {
             Ok(n) => return Ok(n),
@@ -317,6 +331,7 @@ pub fn write_all<W: Write>(writer: &mut W, text: &[u8]) -> Result<(), Unwritten>
     ensures again { IfErr result (λ w. error_kind w.error ≢ ErrorKind.Interrupted) }
 {
     let mut at = 0;
+    // A writer takes as much as it likes, so no `for`.
     while at < text.len() {
         match write_some(writer, &text[at..]) {
             Ok(0) => {
@@ -453,7 +468,8 @@ impl<'a> Program<'a> {
     // Opens every file that so many arguments name. Without one the standard input is read, in the place of the program's name.
     fn open_files(&self, count: usize) -> Result<Inputs, Stop>
         requires { count ≤ 4096 }
-        ensures { IfErr result (λ stop. stop ≡ Stop.Failed) }
+        ensures failed { IfErr result (λ stop. stop ≡ Stop.Failed) }
+        ensures first { IfOk result (λ r. r.at ≡ 0) }
     {
         let mut inputs = Inputs::new();
         let mut o = Orders::new();
@@ -478,7 +494,10 @@ impl<'a> Program<'a> {
     }
 
     // Reads the arguments, opens all files, and says why there is nothing to do where that fails.
-    pub fn open(&self) -> Result<(Orders, Inputs), Stop> {
+    pub fn open(&self) -> Result<(Orders, Inputs), Stop>
+        ensures failed { IfErr result (λ stop. stop ≢ Stop.Unread) }
+        ensures first { IfOk result (λ r. r.1.at ≡ 0) }
+    {
         let count = argument_count(self.rt);
         let orders = self.read_orders(count)?;
         if ARGUMENTS < count {
@@ -488,20 +507,23 @@ impl<'a> Program<'a> {
         Ok((orders, self.open_files(count)?))
     }
 
-    // Writes a text to the standard output. A failure is said, but for a pipe that nobody reads any more.
-    pub fn write_out(&self, text: &[u8]) -> Result<(), Unwritten>
-        ensures { IfErr result (λ w. w.n ≤ length text.now) }
+    // Writes a text to the standard output, and answers its length. A failure is said, but for a pipe that nobody reads any more.
+    pub fn write_out(&self, text: &[u8]) -> Result<usize, Unwritten>
+        ensures whole { IfOk result (λ n. n ≡ length text.now) }
+        ensures part { IfErr result (λ w. w.n ≤ length text.now) }
     {
-        let written = write_all(&mut self.rt.stdout(), text);
-        if let Err(w) = written {
-            if w.error.kind() != ErrorKind::BrokenPipe {
-                self.say_failed(Failing::Output, w.error);
+        match write_all(&mut self.rt.stdout(), text) {
+            Ok(()) => Ok(text.len()),
+            Err(w) => {
+                if w.error.kind() != ErrorKind::BrokenPipe {
+                    self.say_failed(Failing::Output, w.error);
+                }
+                Err(w)
             }
         }
-        written
     }
 
-    // Ends a run in which all was read and written: the output is settled, and the status told where the arguments ask for that.
+    // Ends a run in which all was read and written: the output is settled, and the status is written to descriptor 3 where the arguments ask for that.
     pub fn finish(&self, status: bool) -> Result<(), Stop>
         ensures { IfErr result (λ stop. stop ≡ Stop.Failed) }
     {

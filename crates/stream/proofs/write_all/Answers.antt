@@ -1,4 +1,4 @@
--- What a write takes stands behind what was written.
+-- What a write takes comes after what was written.
 use Rattle.std.specs.Prelude.{Option}
 use Rattle.std.proofs.Common.{ℕ, ◌+◌, ◌-◌, ◌≤◌, List, length, take, drop, arith, length-drop}
 use Rattle.std.proofs.Math.Seq.{take-add}
