@@ -1,4 +1,4 @@
--- A block's lines, printed one after another: where the loop stands, and what a turn does.
+-- A block's lines, printed one after another: what holds at each turn, and what a turn does.
 use Rattle.std.proofs.Common.{ℕ, ◌-◌, ◌≤◌, ◌<◌, ◌≡◌, refl, ap, sym, ◌∙◌, List, length, arith}
 use Rattle.text_lines.specs.Lines.{Taking, take_line}
 use Rattle.text_lines.specs.LineLaws.{moves}

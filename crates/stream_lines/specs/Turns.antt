@@ -5,7 +5,7 @@ use Rattle.text_lines.specs.declared.Taken.TheVariants.{Line, Part}
 use Rattle.stream_orders.specs.Counting.{counted}
 use Rattle.stream_lines.specs.declared.State.{State}
 
--- the line's buffer, the text, the counts and where the program stands
+-- the line's buffer, the text, the counts and how far the program is
 pub record Memory : Type 0 where
   pub line : List ℕ
   pub out : List ℕ

@@ -1,15 +1,16 @@
 // The loop of the programs: all lines of all files are taken from blocks, each is printed as a program prints it, and the text is written out.
 #![tactic(auto)]
 
-ghost use Rattle.std.specs.Prelude.{◌≡◌, ◌≤◌, ◌<◌, ◌-◌, ℕ, List, length, IfOk};
+ghost use Rattle.std.specs.Prelude.{◌≡◌, ◌≢◌, ◌≤◌, ◌<◌, ◌+◌, ◌-◌, ℕ, List, length, IfOk, IfErr};
 ghost use Rattle.stream_lines.specs.Turns.{memory, Prints, Ends, Turns};
 
 use stream::{Got, Inputs, Program, Stop};
 use text_lines::Taken;
 
-// The characters of a line that are kept: one more than the longest frame has.
+// The characters of a line that are kept: as many as the longest frame has.
 const CHARACTERS: usize = 4_096;
 
+// The bytes of one read, at most.
 const BLOCK: usize = 65_536;
 
 // What a program prints of a line, and what it counts it as. A line is a buffer and how many characters it has; those that the buffer has no room for are
@@ -23,7 +24,7 @@ pub trait Printer {
 
     ghost ROOM: { ℕ };
 
-    // The room in which the text of any line has place.
+    // The room in which the text of any line fits.
     const ROOM: usize;
 
     // Prints a line after the text so far; the text's length.
@@ -35,15 +36,14 @@ pub trait Printer {
         line: &[u8],
         chars: usize,
     ) -> usize
-        requires { used ≤ length out.old }
-        ensures inside { result ≤ length out.new }
+        ensures inside { used ≤ length out.old → result ≤ length out.new }
         ensures text { prints out.old used number line.now chars out.new result };
 
     fn verdict(&mut self, line: &[u8], chars: usize) -> usize
         ensures { judges line.now chars result };
 }
 
-// Where a program stands: a place in the block, the characters of the line that is not ended yet and its number, and how much text waits.
+// How far a program is: a place in the block, the characters of the line that is not ended yet and its number, and how much text waits.
 #[derive(Clone, Copy)]
 struct State {
     at: usize,
@@ -90,6 +90,7 @@ impl<P: Printer> Lines<P> {
             (memory self.new.line out.new self.new.tally result) }
     {
         let mut s = s;
+        // A line is as long as it is, so no `for`.
         while s.at < block.len() {
             if out.len() - s.used < P::ROOM {
                 return s;
@@ -108,9 +109,9 @@ impl<P: Printer> Lines<P> {
         s
     }
 
-    // A file's end: its last line without LF counts if it has a character.
+    // A file's end: its last line without LF counts if it has a character. There is room for it.
     fn end_file(&mut self, out: &mut [u8], s: State) -> State
-        requires { s.used ≤ length out.old }
+        requires { s.used + P.ROOM ≤ length out.old }
         ensures inside { result.used ≤ length out.new }
         ensures ends { Ends P.prints P.judges (memory self.old.line out.old self.old.tally s)
             (memory self.new.line out.new self.new.tally result) }
@@ -130,13 +131,15 @@ impl<P: Printer> Lines<P> {
         s: State,
     ) -> Result<State, Stop>
         requires { P.ROOM ≤ length out.old }
-        ensures { IfOk result (λ r. r.used ≡ 0) }
+        ensures none { IfOk result (λ r. r.used ≡ 0) }
+        ensures failed { IfErr result (λ stop. stop ≢ Stop.Refused) }
     {
         let mut s = State {
             at: 0,
             used: 0,
             ..s
         };
+        // Printing stops wherever room runs out, so no `for`.
         while s.at < block.len() {
             s = self.print_lines(block, out, s);
             program.write_out(&out[..s.used])?;
@@ -153,7 +156,7 @@ impl<P: Printer> Lines<P> {
     }
 }
 
-// Prints the lines of all files, and writes them out.
+// Prints the lines of all files, and writes them out. A buffer without room for a line fails at once.
 pub fn print_all<P: Printer + Drop>(
     program: &Program,
     inputs: &mut Inputs,
@@ -161,8 +164,13 @@ pub fn print_all<P: Printer + Drop>(
     out: &mut [u8],
     counts: bool,
 ) -> Result<(), Stop>
-    requires { P.ROOM ≤ length out.old }
+    ensures size { length out.new ≡ length out.old }
+    ensures failed { IfErr result (λ stop. stop ≢ Stop.Refused) }
 {
+    if out.len() < P::ROOM {
+        let _ = eprintln!(program.rt; "{}: there is no room for a line", program.name);
+        return Err(Stop::Failed);
+    }
     let mut lines = Lines {
         line: [0; CHARACTERS],
         printer,
@@ -175,6 +183,7 @@ pub fn print_all<P: Printer + Drop>(
         number: 1,
         used: 0,
     };
+    // Every loop has an end; no run comes to this one's.
     for _ in 0..u64::MAX {
         match inputs.next_block(program, &mut block)? {
             Got::Bytes(n) => s = lines.print_block(program, &block[..n], out, s)?,

@@ -1,4 +1,4 @@
--- Where the loop stands in the block, and what was printed up to there.
+-- What holds at each turn: what was printed so far.
 use Rattle.std.proofs.Common.{length, ◌-◌}
 use Rattle.stream_lines.specs.Turns.{memory}
 use Rattle.stream_lines.proofs.Going.{Going}
