@@ -1,5 +1,5 @@
 -- What printing a line, a block's lines and a file's last line leaves: the text that was put is what the input prints from there on, up to
--- where it stands.
+-- the place that it reached.
 use Rattle.std.specs.Prelude.{ℕ, ◌+◌, ◌≤◌, ◌≡◌, List, [], length, drop}
 use Rattle.std.proofs.lemmas.List.Edits.{sets}
 use Rattle.text_lines.specs.Lines.{lines_of}
@@ -19,10 +19,12 @@ pub record Puts (out : List ℕ) (used n : ℕ) (line : List ℕ) (k : ℕ) (out
   pub place : next ≡ (print_frame out used n line k bytes table).next
   pub text : out' ≡ (print_frame out used n line k bytes table).out
 
--- and so is what it is counted as
+-- and so is what it is counted as; with this room it depends on the line alone (`verdict-alone` in proofs/Judges.antt)
 pub record Judged (line : List ℕ) (k v : ℕ) : Type 0 where
   pub bytes : List ℕ
   pub table : List ℕ
+  pub byte_room : 2048 ≤ length bytes
+  pub word_room : 5120 ≤ length table
   pub verdict : v ≡ verdict_of line k bytes table
 
 -- where printing may begin: there is room for a line's characters, and the text is in the buffer
