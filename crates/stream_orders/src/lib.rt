@@ -1,10 +1,11 @@
 // What the arguments of a program ask for, one after the other, and frames counted by their verdict.
 #![tactic(auto)]
 
-ghost use Rattle.std.specs.Prelude.{◌≡◌};
+ghost use Rattle.std.specs.Prelude.{◌≡◌, Some};
 ghost use Rattle.stream_orders.specs.Arguments.{dashed, option_of, plain_of, edition_of, grade_of, argument_of};
 ghost use Rattle.stream_orders.specs.Orders.{no_orders, ordered_by, fault_of};
 ghost use Rattle.stream_orders.specs.Counting.{counted};
+ghost use Rattle.stream_orders.specs.Texts.{wanted_text, fault_text};
 
 use std::fmt;
 
@@ -39,6 +40,8 @@ pub enum Wanted {
 }
 
 impl fmt::Display for Wanted {
+    ghost output = { λ w. Some (wanted_text w) };
+
     fn fmt<W: fmt::Write>(&self, f: &mut fmt::Formatter<W>) -> fmt::Result {
         f.write_str(match self {
             Wanted::Edition => "edition",
@@ -69,6 +72,8 @@ pub enum Fault {
 }
 
 impl fmt::Display for Fault {
+    ghost output = { λ f. Some (fault_text f) };
+
     fn fmt<W: fmt::Write>(&self, f: &mut fmt::Formatter<W>) -> fmt::Result {
         f.write_str(match self {
             Fault::NoEdition => "behind --edition there has to be 1 or 2",
@@ -78,7 +83,8 @@ impl fmt::Display for Fault {
     }
 }
 
-// The verdicts that are counted: 0 is an accepted frame, then come the numbers of refusals, then lines that are no frames.
+// The verdicts that are counted: 0 is an accepted frame, then come the numbers of refusals, then lines that are no frames. Numbers and no enum: the tally has a
+// place for each, and a refusal is printed by its number.
 pub const VERDICTS: usize = 18;
 
 pub const LONG: usize = 16;
