@@ -3,7 +3,8 @@
 -- have their own names, those of the other crates their crate's name in front. The programs `dump`, `soundings` and `replay` have no public function.
 -- `stream` and `stream_lines` are not here: the contracts of `stream` say which bytes `read_block` took from its reader and `write_all` put into its
 -- writer. `write_out` says that the whole text was written where it answers no error. How much one call takes, and whether it fails, is left to the system. The exports of `capgauze_exports` are
--- held to the functions of `capgauze_c`, which are here, by `proofs/Linked.antt` there.
+-- held to the functions of `capgauze_c`, which are here, by `proofs/Linked.antt` there. What `fmt` of `Wanted` and `Fault` in `stream_orders` writes is
+-- their `output`.
 
 -- what all share
 pub use Rattle.wire.proofs.Only.{number-of-one as wire-number-of-one}

@@ -1,5 +1,5 @@
 -- A line's verdict is the line's alone, where there is room for the bytes and the fields of any frame.
-use Rattle.std.specs.Prelude.{ℕ, ◌≤◌, ◌≡◌, refl, Bool, true, false, List, leb, length, take, drop, Result, Ok, Err}
+use Rattle.std.specs.Prelude.{ℕ, ◌≤◌, ◌≡◌, refl, Bool, true, false, List, leb, length, take, drop}
 use Rattle.std.proofs.Common.{ap, sym, ◌∙◌, arith, leb-true, leb-false, length-take, take_at}
 use Rattle.std.proofs.lemmas.List.Edits.{sets}
 use Rattle.wire.specs.Reading.{Message, Fields, read_message}
@@ -10,7 +10,6 @@ use Rattle.entry_message.specs.Messages.{read_entry, entry-open}
 use Rattle.place.specs.Place.{put_front}
 use Rattle.text_hex.specs.Frame.{Framed, Decoded, Decodes, Fails, decoded, framed, frame_of, line_limit, above-limit, above-line, fitting}
 use Rattle.text_hex.specs.Faults.{decoded-half}
-use Rattle.text_hex.specs.declared.FrameError.TheVariants.{TooLong, NotHex}
 use Rattle.text_frames.specs.Room.{sized}
 use Rattle.dump.specs.Verdict.{read_verdict, message_verdict, frame_verdict, verdict_of, format_verdict, decoded_verdict, line_verdict}
 
