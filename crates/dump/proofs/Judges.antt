@@ -4,9 +4,8 @@ use Rattle.std.proofs.Common.{ap, sym, ◌∙◌, arith, leb-true, leb-false, le
 use Rattle.std.proofs.lemmas.List.Edits.{sets}
 use Rattle.wire.specs.Reading.{Message, Fields, read_message}
 use Rattle.wire.specs.Reading as reading
-use Rattle.wire.specs.declared.Field.{Field}
 use Rattle.message_table.specs.Into.{Outcome, read_into, into-refused, into-fits}
-use Rattle.entry_message.specs.Messages.{read_entry, entry-open}
+use Rattle.entry_message.specs.Messages.{entry-open}
 use Rattle.place.specs.Place.{put_front}
 use Rattle.text_hex.specs.Frame.{Framed, Decoded, Decodes, Fails, decoded, framed, frame_of, line_limit, above-limit, above-line, fitting}
 use Rattle.text_hex.specs.Faults.{decoded-half}
