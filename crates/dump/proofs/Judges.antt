@@ -18,6 +18,7 @@ module _ (s t : List ℕ) (short : length s ≤ 2048) (room : 5120 ≤ length t)
     where
       told : (o : Outcome) → read_into s 0 (length s) t ≡ o → message_verdict s t ≡ read_verdict o.answer
       told o e = ap (λ (x : Outcome). read_verdict x.answer) (entry-open s 0 (length s) t (omega arith) (omega arith) (omega arith) ∙ e)
+
       go : (m : Message) → read_message s 0 (length s) ≡ m → message_verdict s t ≡ format_verdict (read_message s 0 (length s))
       go (reading.Refused r p) e = told _ (into-refused s 0 (length s) t r p e) ∙ ap format_verdict (sym e)
       go (Fields fs) e = told _ (into-fits s 0 (length s) t fs e (omega (arith, (sized 0 s fs e).few))) ∙ ap format_verdict (sym e)
