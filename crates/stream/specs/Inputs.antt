@@ -1,7 +1,7 @@
 -- What the arguments bring, before a read of one of them and after it.
-use Rattle.std.specs.Prelude.{ℕ, ◌≤◌, Option, Some, None, ⊤}
+use Rattle.std.specs.Prelude.{ℕ, ◌≤◌, ⊤}
 use Rattle.stream.specs.declared.Input.{Input}
-use Rattle.stream.specs.declared.Input.TheVariants.{Named, Standard, Closed}
+use Rattle.stream.specs.declared.Input.TheVariants.{Nothing, Named, Standard, Closed}
 use Rattle.stream.specs.declared.Got.{Got}
 use Rattle.stream.specs.declared.Got.TheVariants.{Bytes, FileEnd, End}
 
@@ -12,11 +12,11 @@ pub data Kind : Type 0 where
   brings_the_standard_input : Kind
   brings_a_closed_input : Kind
 
-abbrev pub kind_of : Option Input → Kind
-kind_of None = brings_nothing
-kind_of (Some (Named f)) = brings_a_file
-kind_of (Some Standard) = brings_the_standard_input
-kind_of (Some Closed) = brings_a_closed_input
+abbrev pub kind_of : Input → Kind
+kind_of Nothing = brings_nothing
+kind_of (Named f) = brings_a_file
+kind_of Standard = brings_the_standard_input
+kind_of Closed = brings_a_closed_input
 
 -- a read brings a byte or more, and as many as the block has room for at most
 abbrev pub IsWithin : ℕ → Got → Type 0

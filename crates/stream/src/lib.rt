@@ -2,11 +2,11 @@
 // A call that a signal interrupts is made again, and a write that takes a part goes on after it.
 #![tactic(auto)]
 
-ghost use Rattle.std.specs.Prelude.{◌≡◌, ◌≢◌, ◌≤◌, ◌<◌, ◌+◌, length, take, drop, map, slice_set, None, Ok, IfOk, IfErr, OnOk, OnErr};
+ghost use Rattle.std.specs.Prelude.{◌≡◌, ◌≢◌, ◌≤◌, ◌<◌, ◌+◌, length, take, drop, map, slice_set, slice_index_or, false, Ok, IfOk, IfErr, OnOk, OnErr};
 ghost use Rattle.std.specs.IoError.{error_kind};
 ghost use Rattle.std.specs.Io.{ReadsAtMost, WritesAtMost};
 ghost use Rattle.std.specs.Io.KnownBytes.{Keeps, Consumes, Appends, WriteAppends, IsAtEnd};
-ghost use Rattle.stream.specs.Inputs.{kind_of, IsWithin};
+ghost use Rattle.stream.specs.Inputs.{kind_of, brings_the_standard_input, IsWithin};
 ghost use Rattle.stream.specs.Stops.{status_of, IsStopFor};
 
 use std::env::{Env, FillError};
@@ -77,9 +77,11 @@ impl From<Unwritten> for Stop {
     }
 }
 
-// What an argument brings: an open file, the standard input, or the standard input once more, which is closed by then. A file is closed where it is dropped.
+// What an argument brings: nothing, an open file, the standard input, or the standard input once more, which is closed by then. A file is closed where it is
+// dropped. `Nothing` is a variant and not the None of an Option, which takes 12 bytes for 8: the list of all arguments would take 16 KiB more of the stack.
 #[derive(Drop)]
 pub enum Input {
+    Nothing,
     Named(File),
     Standard,
     Closed,
@@ -91,7 +93,7 @@ pub const ARGUMENTS: usize = 4_096;
 // What each argument brings, and the argument whose file is read.
 #[derive(Drop)]
 pub struct Inputs {
-    pub files: [Option<Input>; ARGUMENTS],
+    pub files: [Input; ARGUMENTS],
     pub at: usize,
 }
 
@@ -100,7 +102,7 @@ pub struct Inputs {
 #[derive(Clone, Copy)]
 pub struct Program<'a> {
     pub rt: &'a HostRuntime,
-    pub name: &'a str,
+    pub name: &'a [u8],
     pub editions: bool,
 }
 
@@ -117,8 +119,8 @@ const LABEL: usize = 4_224;
 
 const LINE: usize = 4_608;
 
-// Room for the system's reason.
-const REASON: usize = 256;
+// Room for the system's reason, and for any other part of what is said that is put together.
+const PART: usize = 256;
 
 // The system's reasons for a descriptor that is closed and for a name that is too long.
 const EBADF: i32 = 9;
@@ -181,7 +183,7 @@ fn put_failing(rt: &impl Env, line: &mut Line, what: Failing) -> io::Result<()> 
 
 // The system's reason, without its number at the end. It is written without the heap, so none is lost where memory is short.
 fn put_reason(line: &mut Line, e: io::Error) -> io::Result<()> {
-    let mut reason = io::Cursor::new([0u8; REASON]);
+    let mut reason = io::Cursor::new([0u8; PART]);
     let _ = write!(reason, "{e}");
     let text = str::from_utf8(written(&reason)).unwrap_or("");
     match text.split_once(" (os error ") {
@@ -230,22 +232,22 @@ pub fn read_block<R: Read>(reader: &mut R, block: &mut [u8]) -> io::Result<usize
     Err(io::Error::from(ErrorKind::TimedOut))
 }
 
-fn read_input(rt: &HostRuntime, input: &mut Option<Input>, block: &mut [u8]) -> io::Result<usize>
+fn read_input(rt: &HostRuntime, input: &mut Input, block: &mut [u8]) -> io::Result<usize>
     ensures inside { ReadsAtMost result block.new }
     ensures kind { kind_of input.new ≡ kind_of input.old }
 {
     match input {
-        None => Ok(0),
-        Some(Input::Named(file)) => read_block(file, block),
-        Some(Input::Standard) => read_block(&mut rt.stdin(), block),
-        Some(Input::Closed) => Err(io::Error::from_raw_os_error(EBADF)),
+        Input::Nothing => Ok(0),
+        Input::Named(file) => read_block(file, block),
+        Input::Standard => read_block(&mut rt.stdin(), block),
+        Input::Closed => Err(io::Error::from_raw_os_error(EBADF)),
     }
 }
 
 // The first argument from one on that brings an input; as many as there are where none does.
-fn next_file(files: &[Option<Input>], from: usize) -> usize {
+fn next_file(files: &[Input], from: usize) -> usize {
     for i in from..files.len() {
-        if files[i].is_some() {
+        if !matches!(files[i], Input::Nothing) {
             return i;
         }
     }
@@ -253,10 +255,44 @@ fn next_file(files: &[Option<Input>], from: usize) -> usize {
 }
 
 // What a failure of an argument's input is called.
-fn failing_at(input: &Option<Input>, i: usize) -> Failing {
+fn failing_at(input: &Input, i: usize) -> Failing {
     match input {
-        Some(Input::Standard | Input::Closed) => Failing::Input,
+        Input::Standard | Input::Closed => Failing::Input,
         _ => Failing::Named(i),
+    }
+}
+
+// The next block, of the files from an argument on: the bytes that one read of the present file brings, or that it is at its end. What the other arguments
+// bring stays as it is. The argument whose file was read brings the same kind of input as before, and nothing once the file is at its end.
+pub fn next_block(
+    program: &Program,
+    files: &mut [Input],
+    at: &mut usize,
+    block: &mut [u8],
+) -> Result<Got, Stop>
+    ensures inside { IfOk result (IsWithin (length block.new)) }
+    ensures failed { IfErr result (λ stop. stop ≡ Stop.Failed) }
+    ensures same_length { length files.new ≡ length files.old }
+    ensures before { take at.new files.new ≡ take at.new files.old }
+    ensures after { drop (at.new + 1) files.new ≡ drop (at.new + 1) files.old }
+    ensures kinds { result ≢ Ok Got.FileEnd → map kind_of files.new ≡ map kind_of files.old }
+    ensures gone { result ≡ Ok Got.FileEnd → files.new ≡ slice_set files.old at.new Input.Nothing }
+{
+    let i = next_file(files, *at);
+    *at = i;
+    if files.len() <= i {
+        return Ok(Got::End);
+    }
+    match read_input(program.rt, &mut files[i], block) {
+        Err(e) => {
+            program.say_failed(failing_at(&files[i], i), e);
+            Err(Stop::Failed)
+        }
+        Ok(0) => {
+            files[i] = Input::Nothing;
+            Ok(Got::FileEnd)
+        }
+        Ok(n) => Ok(Got::Bytes(n)),
     }
 }
 
@@ -266,13 +302,12 @@ impl Inputs {
         ensures { result.at ≡ 0 }
     {
         Inputs {
-            files: array::from_fn(|_| None),
+            files: array::from_fn(|_| Input::Nothing),
             at: 0,
         }
     }
 
-    // The next block: the bytes that one read of the present file brings, or that it is at its end. What the other arguments bring stays as it is. The argument
-    // whose file was read brings the same kind of input as before, and nothing once the file is at its end.
+    // The next block of these inputs.
     pub fn next_block(&mut self, program: &Program, block: &mut [u8]) -> Result<Got, Stop>
         ensures inside { IfOk result (IsWithin (length block.new)) }
         ensures failed { IfErr result (λ stop. stop ≡ Stop.Failed) }
@@ -280,24 +315,9 @@ impl Inputs {
         ensures before { take self.new.at self.new.files ≡ take self.new.at self.old.files }
         ensures after { drop (self.new.at + 1) self.new.files ≡ drop (self.new.at + 1) self.old.files }
         ensures kinds { result ≢ Ok Got.FileEnd → map kind_of self.new.files ≡ map kind_of self.old.files }
-        ensures gone { result ≡ Ok Got.FileEnd → self.new.files ≡ slice_set self.old.files self.new.at None }
+        ensures gone { result ≡ Ok Got.FileEnd → self.new.files ≡ slice_set self.old.files self.new.at Input.Nothing }
     {
-        let i = next_file(&self.files, self.at);
-        self.at = i;
-        if ARGUMENTS <= i {
-            return Ok(Got::End);
-        }
-        match read_input(program.rt, &mut self.files[i], block) {
-            Err(e) => {
-                program.say_failed(failing_at(&self.files[i], i), e);
-                Err(Stop::Failed)
-            }
-            Ok(0) => {
-                self.files[i] = None;
-                Ok(Got::FileEnd)
-            }
-            Ok(n) => Ok(Got::Bytes(n)),
-        }
+        next_block(program, &mut self.files, &mut self.at, block)
     }
 }
 
@@ -374,16 +394,17 @@ fn input_for(
     i: usize,
     a: Argument,
     named_before: bool,
-) -> io::Result<Option<Input>> {
+) -> io::Result<Input> {
     match a {
-        Argument::File => Ok(Some(Input::Named(open_named(rt, i)?))),
-        Argument::Input if named_before => Ok(Some(Input::Closed)),
-        Argument::Input => Ok(Some(Input::Standard)),
-        _ => Ok(None),
+        Argument::File => Ok(Input::Named(open_named(rt, i)?)),
+        Argument::Input if named_before => Ok(Input::Closed),
+        Argument::Input => Ok(Input::Standard),
+        _ => Ok(Input::Nothing),
     }
 }
 
 impl<'a> Program<'a> {
+    // Each part of what is said is written by itself: where one does not fit, a later one may.
     fn say(&self, text: &[u8]) {
         let _ = write_all(&mut self.rt.stderr(), text);
     }
@@ -396,7 +417,8 @@ impl<'a> Program<'a> {
     }
 
     fn put_failed(&self, line: &mut Line, what: Failing, e: io::Error) -> io::Result<()> {
-        write!(line, "{}: ", self.name)?;
+        line.write_all(self.name)?;
+        line.write_all(b": ")?;
         put_failing(self.rt, line, what)?;
         line.write_all(b": ")?;
         put_reason(line, e)?;
@@ -407,12 +429,13 @@ impl<'a> Program<'a> {
     fn refuse(&self, status: bool) -> Stop
         ensures { result ≡ Stop.Refused }
     {
-        let editions = if self.editions {
-            " [--edition 1|2] [--least canonical|extensions|any]"
-        } else {
-            ""
-        };
-        let _ = eprintln!(self.rt; "\nusage: {} [--count]{editions} [FILE..]", self.name);
+        self.say(b"\nusage: ");
+        self.say(self.name);
+        self.say(b" [--count]");
+        if self.editions {
+            self.say(b" [--edition 1|2] [--least canonical|extensions|any]");
+        }
+        self.say(b" [FILE..]\n");
         tell(self.rt, status, b"2");
         Stop::Refused
     }
@@ -422,10 +445,13 @@ impl<'a> Program<'a> {
         ensures { result ≡ Stop.Refused }
     {
         let mut word = [0u8; NAME];
+        let mut part = io::Cursor::new([0u8; PART]);
         let _ = match o.wants {
-            None => eprint!(self.rt; "{}: there is no option ", self.name),
-            Some(wanted) => eprint!(self.rt; "{}: there is no {wanted} ", self.name),
+            None => write!(part, ": there is no option "),
+            Some(wanted) => write!(part, ": there is no {wanted} "),
         };
+        self.say(self.name);
+        self.say(written(&part));
         if let Ok(n) = self.rt.arg(i, &mut word) {
             self.say(&word[..n]);
         }
@@ -436,8 +462,29 @@ impl<'a> Program<'a> {
     fn refuse_all(&self, fault: Fault, o: Orders) -> Stop
         ensures { result ≡ Stop.Refused }
     {
-        let _ = eprint!(self.rt; "{}: {fault}", self.name);
+        let mut part = io::Cursor::new([0u8; PART]);
+        let _ = write!(part, ": {fault}");
+        self.say(self.name);
+        self.say(written(&part));
         self.refuse(o.status)
+    }
+
+    // Says that there are more arguments than there is room for.
+    fn refuse_number(&self) -> Stop
+        ensures { result ≡ Stop.Failed }
+    {
+        self.say(self.name);
+        self.say(b": there are too many arguments\n");
+        Stop::Failed
+    }
+
+    // Says that a buffer has no room for a line.
+    pub fn refuse_buffer(&self) -> Stop
+        ensures { result ≡ Stop.Failed }
+    {
+        self.say(self.name);
+        self.say(b": there is no room for a line\n");
+        Stop::Failed
     }
 
     // What an argument is; none where the program has no such option. Editions are for programs that print soundings.
@@ -466,18 +513,18 @@ impl<'a> Program<'a> {
     }
 
     // Opens every file that so many arguments name. Without one the standard input is read, in the place of the program's name.
-    fn open_files(&self, count: usize) -> Result<Inputs, Stop>
-        requires { count ≤ 4096 }
+    fn open_files(&self, files: &mut [Input], count: usize, named: bool) -> Result<(), Stop>
+        requires { count ≤ length files.old }
+        ensures same_length { length files.new ≡ length files.old }
         ensures failed { IfErr result (λ stop. stop ≡ Stop.Failed) }
-        ensures first { IfOk result (λ r. r.at ≡ 0) }
+        ensures standard { IfOk result (λ _. named ≡ false → kind_of (slice_index_or files.new 0 Input.Nothing) ≡ brings_the_standard_input) }
     {
-        let mut inputs = Inputs::new();
         let mut o = Orders::new();
         let mut standard = false;
         for i in 1..count {
             if let Some(a) = self.argument_at(i, o) {
                 match input_for(self.rt, i, a, standard) {
-                    Ok(input) => inputs.files[i] = input,
+                    Ok(input) => files[i] = input,
                     Err(e) => {
                         self.say_failed(Failing::Named(i), e);
                         return Err(Stop::Failed);
@@ -487,24 +534,29 @@ impl<'a> Program<'a> {
                 o = o.with(a);
             }
         }
-        if !o.named {
-            inputs.files[0] = Some(Input::Standard);
+        if !named {
+            if files.len() < 1 {
+                return Err(Stop::Failed);
+            }
+            files[0] = Input::Standard;
         }
-        Ok(inputs)
+        Ok(())
     }
 
-    // Reads the arguments, opens all files, and says why there is nothing to do where that fails.
-    pub fn open(&self) -> Result<(Orders, Inputs), Stop>
+    // Reads the arguments, opens all files into a list that nothing is in yet, and says why there is nothing to do where that fails. Where no file is named the
+    // standard input comes first.
+    pub fn open(&self, files: &mut [Input]) -> Result<Orders, Stop>
+        ensures same_length { length files.new ≡ length files.old }
         ensures failed { IfErr result (λ stop. stop ≢ Stop.Unread) }
-        ensures first { IfOk result (λ r. r.1.at ≡ 0) }
+        ensures standard { IfOk result (λ o. o.named ≡ false → kind_of (slice_index_or files.new 0 Input.Nothing) ≡ brings_the_standard_input) }
     {
         let count = argument_count(self.rt);
         let orders = self.read_orders(count)?;
-        if ARGUMENTS < count {
-            let _ = eprintln!(self.rt; "{}: there are too many arguments", self.name);
-            return Err(Stop::Failed);
+        if files.len() < count {
+            return Err(self.refuse_number());
         }
-        Ok((orders, self.open_files(count)?))
+        self.open_files(files, count, orders.named)?;
+        Ok(orders)
     }
 
     // Writes a text to the standard output, and answers its length. A failure is said, but for a pipe that nobody reads any more.

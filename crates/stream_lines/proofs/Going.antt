@@ -14,13 +14,14 @@ pub data Moved (a u b v : ℕ) : Type 0 where
 -- what is printed from here on is printed from the start on
 pub record Going (P : Printing) (Q : Judging) (room : ℕ) (block : List ℕ) (m₀ m : Memory) : Type 0 where
   pub size : length m.out ≡ length m₀.out
+  pub wide : length m.line ≡ length m₀.line
   pub inside : m.state.used ≤ length m.out
   pub moved : Moved m₀.state.at m₀.state.used m.state.at m.state.used
   pub after : (m' : Memory) → Turns P Q room block m m' → Turns P Q room block m₀ m'
 
 module _ {P : Printing} {Q : Judging} {room : ℕ} {block : List ℕ} where
   pub go-start : {m : Memory} → m.state.used ≤ length m.out → Going P Q room block m m
-  go-start h = record { size = refl; inside = h; moved = still refl refl; after = λ m' t. t }
+  go-start h = record { size = refl; wide = refl; inside = h; moved = still refl refl; after = λ m' t. t }
 
   module _ {m₀ m : Memory} (g : Going P Q room block m₀ m) where
     -- no room for a line: where there was, one was taken
@@ -46,6 +47,7 @@ module _ {P : Printing} {Q : Judging} {room : ℕ} {block : List ℕ} where
         let w = go-less e in
         record {
           size = omega (arith, p.size, g.size);
+          wide = ap length p.line ∙ l ∙ g.wide;
           inside = p.inside;
           moved = on (elim g.moved [ still a u ↦ omega (arith, a, w.0, n) | on q ↦ omega (arith, q, w.0, n) ]);
           after = λ m' t. g.after m' (turn r e l p n t);

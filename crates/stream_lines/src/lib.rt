@@ -1,8 +1,9 @@
 // The loop of the programs: all lines of all files are taken from blocks, each is printed as a program prints it, and the text is written out.
 #![tactic(auto)]
 
-ghost use Rattle.std.specs.Prelude.{◌≡◌, ◌≢◌, ◌≤◌, ◌<◌, ◌+◌, ◌-◌, ℕ, List, length, IfOk, IfErr};
+ghost use Rattle.std.specs.Prelude.{◌≡◌, ◌≢◌, ◌≤◌, ◌<◌, ◌+◌, ◌-◌, ℕ, List, length, IfOk, IfErr, IfSome};
 ghost use Rattle.stream_lines.specs.Turns.{memory, Prints, Ends, Turns};
+ghost use Rattle.stream_lines.specs.Sizes.{line_size, block_size, verdict_count};
 
 use stream::{Got, Inputs, Program, Stop};
 use text_lines::Taken;
@@ -63,7 +64,8 @@ struct Lines<P: Printer> {
 impl<P: Printer> Lines<P> {
     // Prints a line of so many characters, and counts it where that is asked: it is then read once more.
     fn report(&mut self, out: &mut [u8], s: State, chars: usize, at: usize) -> State
-        requires { s.used ≤ length out.old }
+        requires used { s.used ≤ length out.old }
+        requires wide { length self.old.line ≡ line_size }
         ensures inside { result.used ≤ length out.new }
         ensures printed { Prints P.prints P.judges (memory self.old.line out.old self.old.tally s) chars
             (memory self.new.line out.new self.new.tally result) }
@@ -83,7 +85,9 @@ impl<P: Printer> Lines<P> {
 
     // Prints a block's lines from a place on, as long as there is room for any line. The characters of a line that is not ended are kept.
     fn print_lines(&mut self, block: &[u8], out: &mut [u8], s: State) -> State
-        requires { s.used ≤ length out.old }
+        requires used { s.used ≤ length out.old }
+        requires wide { length self.old.line ≡ line_size }
+        ensures wide { length self.new.line ≡ line_size }
         ensures inside { result.used ≤ length out.new }
         ensures moves { P.ROOM ≤ length out.old - s.used → s.at < length block.now → s.at < result.at }
         ensures turns { Turns P.prints P.judges P.ROOM block.now (memory self.old.line out.old self.old.tally s)
@@ -111,7 +115,9 @@ impl<P: Printer> Lines<P> {
 
     // A file's end: its last line without LF counts if it has a character. There is room for it.
     fn end_file(&mut self, out: &mut [u8], s: State) -> State
-        requires { s.used + P.ROOM ≤ length out.old }
+        requires room { s.used + P.ROOM ≤ length out.old }
+        requires wide { length self.old.line ≡ line_size }
+        ensures wide { length self.new.line ≡ line_size }
         ensures inside { result.used ≤ length out.new }
         ensures ends { Ends P.prints P.judges (memory self.old.line out.old self.old.tally s)
             (memory self.new.line out.new self.new.tally result) }
@@ -130,7 +136,9 @@ impl<P: Printer> Lines<P> {
         out: &mut [u8],
         s: State,
     ) -> Result<State, Stop>
-        requires { P.ROOM ≤ length out.old }
+        requires room { P.ROOM ≤ length out.old }
+        requires wide { length self.old.line ≡ line_size }
+        ensures wide { length self.new.line ≡ line_size }
         ensures none { IfOk result (λ r. r.used ≡ 0) }
         ensures failed { IfErr result (λ stop. stop ≢ Stop.Refused) }
     {
@@ -154,6 +162,45 @@ impl<P: Printer> Lines<P> {
             stream::say_counts(program.rt, s.number.saturating_sub(1), tally);
         }
     }
+
+    // Prints the lines of all files, read in blocks, and writes them out.
+    fn print_files(
+        &mut self,
+        program: &Program,
+        inputs: &mut Inputs,
+        block: &mut [u8],
+        out: &mut [u8],
+    ) -> Result<(), Stop>
+        requires room { P.ROOM ≤ length out.old }
+        requires wide { length self.old.line ≡ line_size }
+        requires block { length block.old ≡ block_size }
+        requires counts { IfSome self.old.tally (λ counts. length counts ≡ verdict_count) }
+        ensures size { length out.new ≡ length out.old }
+        ensures failed { IfErr result (λ stop. stop ≢ Stop.Refused) }
+    {
+        let mut s = State {
+            at: 0,
+            chars: 0,
+            number: 1,
+            used: 0,
+        };
+        // Every loop has an end; no run comes to this one's.
+        for _ in 0..u64::MAX {
+            match inputs.next_block(program, block)? {
+                Got::Bytes(n) => s = self.print_block(program, &block[..n], out, s)?,
+                Got::FileEnd => {
+                    s = self.end_file(out, s);
+                    program.write_out(&out[..s.used])?;
+                    s.used = 0;
+                }
+                Got::End => {
+                    self.say_counts(program, s);
+                    return Ok(());
+                }
+            }
+        }
+        Err(Stop::Failed)
+    }
 }
 
 // Prints the lines of all files, and writes them out. A buffer without room for a line fails at once.
@@ -168,8 +215,7 @@ pub fn print_all<P: Printer + Drop>(
     ensures failed { IfErr result (λ stop. stop ≢ Stop.Refused) }
 {
     if out.len() < P::ROOM {
-        let _ = eprintln!(program.rt; "{}: there is no room for a line", program.name);
-        return Err(Stop::Failed);
+        return Err(program.refuse_buffer());
     }
     let mut lines = Lines {
         line: [0; CHARACTERS],
@@ -177,26 +223,5 @@ pub fn print_all<P: Printer + Drop>(
         tally: counts.then_some([0; stream_orders::VERDICTS]),
     };
     let mut block = [0u8; BLOCK];
-    let mut s = State {
-        at: 0,
-        chars: 0,
-        number: 1,
-        used: 0,
-    };
-    // Every loop has an end; no run comes to this one's.
-    for _ in 0..u64::MAX {
-        match inputs.next_block(program, &mut block)? {
-            Got::Bytes(n) => s = lines.print_block(program, &block[..n], out, s)?,
-            Got::FileEnd => {
-                s = lines.end_file(out, s);
-                program.write_out(&out[..s.used])?;
-                s.used = 0;
-            }
-            Got::End => {
-                lines.say_counts(program, s);
-                return Ok(());
-            }
-        }
-    }
-    Err(Stop::Failed)
+    lines.print_files(program, inputs, &mut block, out)
 }
