@@ -1,19 +1,39 @@
 -- The loops over a line's characters: where each stands, and what a turn does.
-use Rattle.std.proofs.Common.{ℕ, ◌+◌, ◌*◌, ◌/◌, ◌<◌, ◌≤◌, ◌≡◌, Bool, true, false, ◌&&◌, Some, List, ◌∷◌, length, drop, set, get_or, ap, ◌∙◌, sym, arith, add-one, drop_of_length-le, length-drop}
-use Rattle.std.specs.Bool.{then_some}
+use Rattle.std.proofs.Common.{ℕ, ◌+◌, ◌*◌, ◌/◌, ◌<◌, ◌≤◌, ◌≡◌, Bool, true, false, ◌&&◌, Some, None, ◌-◌, List, ◌∷◌, length, drop, set, get_or, ap, ◌∙◌, sym, arith, add-one, drop_of_length-le, length-drop}
 use Rattle.std.proofs.Math.Seq.{drop-cons}
 use Rattle.std.proofs.lemmas.List.Edits.{sets}
 use Rattle.std.proofs.lemmas.Bool.{and_parts}
 use Rattle.place.specs.Place.{Putting, put-start, put-more, put-inside}
 use Rattle.text_digits.specs.Digits.{digit_of}
-use Rattle.text_digits.specs.DigitLaws.{digital}
-use Rattle.text_hex.specs.Faults.{is_digit, digit-known, digit-none, known_of, all_digits, bytes_in, bytes_in-short, length-bytes-in, Decodable}
+use Rattle.text_digits.specs.DigitLaws.{digital, below-run, above-run, figure, capital, small, strange}
+use Rattle.text_hex.specs.Faults.{is_digit, digit-known, known_of, all_digits, bytes_in, bytes_in-short, length-bytes-in, Decodable}
 
 -- ---- one character
 
-pub digit-then : (c : ℕ) (b : Bool) (v : ℕ) → b ≡ is_digit c → v ≡ known_of c → then_some b v ≡ digit_of c
-digit-then c true v e p = ap Some p ∙ sym (digit-known c (sym e))
-digit-then c false v e p = sym (digit-none c (sym e))
+-- what it is worth by its run, and that it is no digit below, between and above them
+module _ (c : ℕ) where
+  pub figure_of : {v : ℕ} → 48 ≤ c → c ≤ 57 → v ≡ c - 48 → Some v ≡ digit_of c
+  figure_of g h e = ap Some e ∙ sym (figure c g (omega arith))
+
+  pub capital_of : {v : ℕ} → 65 ≤ c → c ≤ 70 → v ≡ c - 55 → Some v ≡ digit_of c
+  capital_of g h e = ap Some e ∙ sym (capital c g (omega arith))
+
+  pub small_of : {v : ℕ} → 97 ≤ c → c ≤ 102 → v ≡ c - 87 → Some v ≡ digit_of c
+  small_of g h e = ap Some e ∙ sym (small c g (omega arith))
+
+  pub none-below : c < 48 → None ≡ digit_of c
+  none-below h = sym (strange c (below-run 48 58 c h) (below-run 65 71 c (omega arith)) (below-run 97 103 c (omega arith)))
+
+  pub none-between : 58 ≤ c → c < 65 → None ≡ digit_of c
+  none-between g h = sym (strange c (above-run 48 58 c g) (below-run 65 71 c h) (below-run 97 103 c (omega arith)))
+
+  pub none-among : 71 ≤ c → c < 97 → None ≡ digit_of c
+  none-among g h = sym (strange c (above-run 48 58 c (omega arith)) (above-run 65 71 c g) (below-run 97 103 c h))
+
+  pub none-above : 103 ≤ c → None ≡ digit_of c
+  none-above g = sym (strange c (above-run 48 58 c (omega arith)) (above-run 65 71 c (omega arith)) (above-run 97 103 c g))
+
+pub ruleset by_runs = (figure_of, capital_of, small_of, none-below, none-between, none-among, none-above)
 
 -- ---- tested
 

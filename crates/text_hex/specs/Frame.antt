@@ -57,8 +57,8 @@ framed out Fails = record { answer = Err NotHex; out = out }
 abbrev pub too_long : List ℕ → Framed
 too_long out = record { answer = Err TooLong; out = out }
 
--- Rules D3 and D4: the first characters of a line: Long if there are more than the limit, than the line's buffer has, or than fit as bytes into
--- the lent ones; then Hex if they fail; then the bytes, at the front
+-- Rules D3 and D4, of the first characters of a line: TooLong if there are more than the limit, more than the line's buffer has, or more than fit
+-- as bytes into the buffer for them; then NotHex if they are no bytes; then the bytes, at the front
 unfoldable pub frame_of : List ℕ → ℕ → List ℕ → Framed
 frame_of line chars out =
     choose (leb chars line_limit)

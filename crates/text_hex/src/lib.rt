@@ -27,10 +27,16 @@ fn known(c: u8) -> u8
 }
 
 // What a character is worth as a digit, letters in either case.
+#[tactic(auto, using(crate::proofs::Chars::by_runs))]
 pub fn digit_of(c: u8) -> Option<u8>
     ensures { result ≡ digit_of c }
 {
-    c.is_ascii_hexdigit().then_some(known(c))
+    match c {
+        b'0'..=b'9' => Some(c - b'0'),
+        b'A'..=b'F' => Some(c - b'A' + 10),
+        b'a'..=b'f' => Some(c - b'a' + 10),
+        _ => None,
+    }
 }
 
 // Whether all characters are digits.
