@@ -25,13 +25,14 @@ pub enum Got {
     End,
 }
 
-// Why a program ends before all is done: something could not be opened, read or written; the arguments are refused; nobody reads the output any more. What
-// there is to say of it was said.
+// Why a program ends before all is done: something could not be opened, read or written; the arguments are refused; nobody reads the output any more; a
+// buffer has no room for a line. What there is to say of it was said.
 #[derive(Clone, Copy, Debug, PartialEq, Eq)]
 pub enum Stop {
     Failed,
     Refused,
     Unread,
+    NoRoom,
 }
 
 impl Stop {
@@ -43,6 +44,7 @@ impl Stop {
             Stop::Failed => 1,
             Stop::Refused => 2,
             Stop::Unread => 141,
+            Stop::NoRoom => 1,
         }
     }
 }
@@ -78,7 +80,7 @@ impl From<Unwritten> for Stop {
 }
 
 // What an argument brings: nothing, an open file, the standard input, or the standard input once more, which is closed by then. A file is closed where it is
-// dropped. `Nothing` is a variant and not the None of an Option, which takes 12 bytes for 8: the list of all arguments would take 16 KiB more of the stack.
+// dropped. `Nothing` is a variant, since an `Option<Input>` takes 12 bytes where an `Input` takes 8: a list of all arguments would take 16 KiB more of the stack.
 #[derive(Drop)]
 pub enum Input {
     Nothing,
@@ -119,7 +121,7 @@ const LABEL: usize = 4_224;
 
 const LINE: usize = 4_608;
 
-// Room for the system's reason, and for any other part of what is said that is put together.
+// Room for the system's reason, or for another part of a message that is put together before it is written.
 const PART: usize = 256;
 
 // The system's reasons for a descriptor that is closed and for a name that is too long.
@@ -262,8 +264,8 @@ fn failing_at(input: &Input, i: usize) -> Failing {
     }
 }
 
-// The next block, of the files from an argument on: the bytes that one read of the present file brings, or that it is at its end. What the other arguments
-// bring stays as it is. The argument whose file was read brings the same kind of input as before, and nothing once the file is at its end.
+// The next block of the files, from the argument `at` on, which becomes the argument whose file was read: the bytes that one read brings, or that the file is
+// at its end. What the other arguments bring stays as it is. This one brings the same kind of input as before, and nothing once its file is at its end.
 pub fn next_block(
     program: &Program,
     files: &mut [Input],
@@ -299,7 +301,8 @@ pub fn next_block(
 impl Inputs {
     // No argument brings anything yet.
     pub fn new() -> Inputs
-        ensures { result.at ≡ 0 }
+        ensures first { result.at ≡ 0 }
+        ensures room { 4096 ≡ length result.files }
     {
         Inputs {
             files: array::from_fn(|_| Input::Nothing),
@@ -469,22 +472,27 @@ impl<'a> Program<'a> {
         self.refuse(o.status)
     }
 
+    // Says why a program ends.
+    fn say_why(&self, why: &[u8], stop: Stop) -> Stop
+        ensures { result ≡ stop }
+    {
+        self.say(self.name);
+        self.say(why);
+        stop
+    }
+
     // Says that there are more arguments than there is room for.
     fn refuse_number(&self) -> Stop
         ensures { result ≡ Stop.Failed }
     {
-        self.say(self.name);
-        self.say(b": there are too many arguments\n");
-        Stop::Failed
+        self.say_why(b": there are too many arguments\n", Stop::Failed)
     }
 
     // Says that a buffer has no room for a line.
-    pub fn refuse_buffer(&self) -> Stop
-        ensures { result ≡ Stop.Failed }
+    pub fn no_room(&self) -> Stop
+        ensures { result ≡ Stop.NoRoom }
     {
-        self.say(self.name);
-        self.say(b": there is no room for a line\n");
-        Stop::Failed
+        self.say_why(b": there is no room for a line\n", Stop::NoRoom)
     }
 
     // What an argument is; none where the program has no such option. Editions are for programs that print soundings.
@@ -535,16 +543,16 @@ impl<'a> Program<'a> {
             }
         }
         if !named {
-            if files.len() < 1 {
-                return Err(Stop::Failed);
+            match files.first_mut() {
+                Some(first) => *first = Input::Standard,
+                None => return Err(Stop::Failed),
             }
-            files[0] = Input::Standard;
         }
         Ok(())
     }
 
-    // Reads the arguments, opens all files into a list that nothing is in yet, and says why there is nothing to do where that fails. Where no file is named the
-    // standard input comes first.
+    // Reads the arguments, opens all files into a list in which no argument brings anything yet, and says why there is nothing to do where that fails. Where no
+    // file is named the standard input comes first.
     pub fn open(&self, files: &mut [Input]) -> Result<Orders, Stop>
         ensures same_length { length files.new ≡ length files.old }
         ensures failed { IfErr result (λ stop. stop ≢ Stop.Unread) }

@@ -141,6 +141,7 @@ impl<P: Printer> Lines<P> {
         ensures wide { length self.new.line ≡ line_size }
         ensures none { IfOk result (λ r. r.used ≡ 0) }
         ensures failed { IfErr result (λ stop. stop ≢ Stop.Refused) }
+        ensures roomy { IfErr result (λ stop. stop ≢ Stop.NoRoom) }
     {
         let mut s = State {
             at: 0,
@@ -177,6 +178,7 @@ impl<P: Printer> Lines<P> {
         requires counts { IfSome self.old.tally (λ counts. length counts ≡ verdict_count) }
         ensures size { length out.new ≡ length out.old }
         ensures failed { IfErr result (λ stop. stop ≢ Stop.Refused) }
+        ensures roomy { IfErr result (λ stop. stop ≢ Stop.NoRoom) }
     {
         let mut s = State {
             at: 0,
@@ -213,9 +215,10 @@ pub fn print_all<P: Printer + Drop>(
 ) -> Result<(), Stop>
     ensures size { length out.new ≡ length out.old }
     ensures failed { IfErr result (λ stop. stop ≢ Stop.Refused) }
+    ensures roomy { P.ROOM ≤ length out.old → IfErr result (λ stop. stop ≢ Stop.NoRoom) }
 {
     if out.len() < P::ROOM {
-        return Err(program.refuse_buffer());
+        return Err(program.no_room());
     }
     let mut lines = Lines {
         line: [0; CHARACTERS],
