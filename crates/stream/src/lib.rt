@@ -166,11 +166,14 @@ enum Failing {
 // A line that is said at once.
 type Line = io::Cursor<[u8; LINE]>;
 
+// The name is put into the line's own room, and needs no other.
 fn put_name(rt: &impl Env, line: &mut Line, i: usize) -> io::Result<()> {
-    let mut word = [0u8; LABEL];
-    let room = LABEL.saturating_sub(line.position() as usize);
-    match rt.arg(i, &mut word[..room]) {
-        Ok(n) => line.write_all(&word[..n]),
+    let at = LABEL.min(line.position() as usize);
+    match rt.arg(i, &mut line.get_mut()[at..LABEL]) {
+        Ok(n) => {
+            line.set_position((at + n) as u64);
+            Ok(())
+        }
         Err(_) => line.write_all(b"an argument"),
     }
 }
@@ -556,6 +559,7 @@ impl<'a> Program<'a> {
     pub fn open(&self, files: &mut [Input]) -> Result<Orders, Stop>
         ensures same_length { length files.new ≡ length files.old }
         ensures failed { IfErr result (λ stop. stop ≢ Stop.Unread) }
+        ensures roomy { IfErr result (λ stop. stop ≢ Stop.NoRoom) }
         ensures standard { IfOk result (λ o. o.named ≡ false → kind_of (slice_index_or files.new 0 Input.Nothing) ≡ brings_the_standard_input) }
     {
         let count = argument_count(self.rt);
