@@ -171,7 +171,7 @@ fn put_name(rt: &impl Env, line: &mut Line, i: usize) -> io::Result<()> {
     let at = LABEL.min(line.position() as usize);
     match rt.arg(i, &mut line.get_mut()[at..LABEL]) {
         Ok(n) => {
-            line.set_position((at + n) as u64);
+            line.set_position(line.position().max((at + n) as u64));
             Ok(())
         }
         Err(_) => line.write_all(b"an argument"),

@@ -1,6 +1,8 @@
 -- The loops that put digits: where each stands, and what a turn does.
-use Prim.Native.Nat.{ℕ, zero, suc, max, ◌+◌, ◌-◌, ◌*◌, ◌/◌, ◌%◌, ◌^◌, ◌≤◌, ◌<◌}
-use mathlib.Core.Path.{◌≡◌, refl, ◌∙◌}
+use Prim.Native.Nat.{ℕ, zero, suc, max, min, ◌+◌, ◌-◌, ◌*◌, ◌/◌, ◌%◌, ◌^◌, ◌≤◌, ◌<◌}
+use mathlib.Core.Path.{◌≡◌, refl, sym, ◌∙◌}
+use mathlib.Core.Logic.{◌⊎◌, inl, inr}
+use Rattle.std.proofs.Math.Nat.{eq-or-lt_of_le}
 use mathlib.Core.List.{List, [], ◌∷◌, ◌++◌}
 use native.Mathlib.Omega.{arith}
 use native.Mathlib.Nat.{pow-suc, one-le-pow}
@@ -62,17 +64,18 @@ places_to-power (suc n) (suc k) v f g h =
     let pos : 1 ≤ 10 ^ k = one-le-pow k 10 (omega arith) in
     omega (arith, places-more n v (omega arith), places_to-power n k (v / 10) (omega arith) (omega arith) (omega arith))
 
--- 0 has the place that 1 has
-pub places-max : (v w k : ℕ) → w ≡ max v 1 → 10 ^ k ≤ w → w < 10 * 10 ^ k → k < 20 → k + 1 ≡ places_to 19 v
-places-max v w k e g h l = go v e
+-- a number has the places of one that is not below it, and of 9 where it is less
+pub places-max : (v w k : ℕ) → v ≤ w → w ≤ max v 9 → 10 ^ k ≤ w → w < 10 * 10 ^ k → k < 20 → k + 1 ≡ places_to 19 v
+places-max v w k a b g h l = go (eq-or-lt_of_le (omega arith))
   where
-    go : (x : ℕ) → w ≡ max x 1 → k + 1 ≡ places_to 19 x
-    go zero e =
-        let q : w ≡ 1 = omega arith in
-        omega (arith, places-one 19 0 (omega arith), places-one 19 1 (omega arith), rw q at (places_to-power 19 k w (omega arith) g h))
-    go (suc x) e =
-        let q : w ≡ suc x = omega arith in
-        omega (arith, rw q at (places_to-power 19 k w (omega arith) g h))
+    p : places_to 19 w ≡ k + 1
+    p = places_to-power 19 k w (omega arith) g h
+
+    go : (min v 10 ≡ 10) ⊎ (min v 10 < 10) → k + 1 ≡ places_to 19 v
+    go (inl e) =
+        let q : w ≡ v = omega arith in
+        sym (rw q at p)
+    go (inr e) = omega (arith, p, places-one 19 v (omega arith), places-one 19 w (omega arith))
 
 -- ---- bytes, two digits each
 

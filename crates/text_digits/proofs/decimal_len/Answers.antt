@@ -4,4 +4,5 @@ use Rattle.text_digits.proofs.Turns.{places-max}
 use Rattle.text_digits.proofs.decimal_len.Goals as goal
 
 pub returns : goal.returns
-returns c = places-max _ _ _ c.max.ensures c.ilog10.ensures.power_le c.ilog10.ensures.next_power_gt (omega arith)
+returns c =
+    places-max _ _ _ (omega (arith, c.max.ensures)) (omega (arith, c.max.ensures)) c.ilog10.ensures.power_le c.ilog10.ensures.next_power_gt (omega arith)
