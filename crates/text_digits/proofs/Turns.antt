@@ -64,7 +64,7 @@ places_to-power (suc n) (suc k) v f g h =
     let pos : 1 ≤ 10 ^ k = one-le-pow k 10 (omega arith) in
     omega (arith, places-more n v (omega arith), places_to-power n k (v / 10) (omega arith) (omega arith) (omega arith))
 
--- a number has the places of one that is not below it, and of 9 where it is less
+-- v has as many places as w, which is v or, where v is below 10, any number from v to 9
 pub places-max : (v w k : ℕ) → v ≤ w → w ≤ max v 9 → 10 ^ k ≤ w → w < 10 * 10 ^ k → k < 20 → k + 1 ≡ places_to 19 v
 places-max v w k a b g h l = go (eq-or-lt_of_le (omega arith))
   where
